@@ -11,7 +11,7 @@ use Rattle.number.proofs.Laws.{be-after}
 use Rattle.packet.specs.Packet.{headerAt}
 use Rattle.packet.specs.declared.PacketAnswer.the-variants.{Whole}
 use Rattle.packet.specs.declared.Packet.{Packet}
-use Rattle.packet.proofs.Laws.{accepts, whole, Good}
+use Rattle.packet.proofs.Laws.{accepts, whole}
 
 -- a header with nothing wrong in it but, perhaps, its length
 pub record Framed (s : List ℕ) (at n : ℕ) : Type 0 where

@@ -1,6 +1,6 @@
 -- What a whole packet's header tells, and what decides it.
-use Prim.Native.Nat.{ℕ, _+_, _-_, _*_, _≤_, _<_, _%_, _^_}
-use mathlib.Core.Path.{_≡_, refl, sym, _∙_}
+use Prim.Native.Nat.{ℕ, _+_, _-_, _≤_, _%_}
+use mathlib.Core.Path.{_≡_, refl}
 use mathlib.Core.Bool.{Bool, true, false}
 use mathlib.Core.List.{List}
 use native.Mathlib.Omega.{arith}
@@ -9,7 +9,6 @@ use lib.ListN.{length, getD}
 use lib.Dec.{ltb, eqb}
 use Rattle.plate.specs.Choice.{pick}
 use Rattle.number.specs.Number.{be}
-use Rattle.number.proofs.Laws.{Bytes, be-lt}
 use Rattle.packet.specs.Packet.{headerAt, sizedAt, packetAt, ifType, refused}
 use Rattle.packet.specs.declared.Packet.{Packet}
 use Rattle.packet.specs.declared.PacketAnswer.{PacketAnswer}

@@ -1,8 +1,5 @@
 use Rattle.media_type.proofs.is_known.Statement.{statement}
 use Rattle.media_type.proofs.is_known.Tie as tie
-use Rattle.media_type.proofs.is_known.Reads as reads
-use Rattle.media_type.proofs.is_known.Lts as lts
-use borrow.Author.Needs.{needs}
 use native.Mathlib.Omega.{arith}
 use borrow.Author.Tests.{le-leb, lt-leb}
 use Rattle.media_type.specs.MediaType.{knownType}

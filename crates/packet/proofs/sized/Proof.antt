@@ -1,12 +1,6 @@
 use borrow.Author.Needs.{needs}
 use Rattle.packet.proofs.sized.Statement.{statement}
 use Rattle.packet.proofs.sized.Tie as tie
-use Rattle.packet.proofs.sized.Reads as reads
-use Rattle.packet.proofs.sized.Lts as lts
-use Rattle.number.proofs.be_at.Reads as be-at-reads
-use Rattle.plate.proofs.refuse.Reads as refuse-reads
-use borrow.Author.Needs.{needs}
-use native.Mathlib.Omega.{arith}
 use Rattle.plate.proofs.Tests.{tests}
 use Rattle.packet.specs.Packet.{sizedAt}
 

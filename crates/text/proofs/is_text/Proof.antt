@@ -1,7 +1,5 @@
 use Rattle.text.proofs.is_text.Statement.{statement}
 use Rattle.text.proofs.is_text.Tie as tie
-use Rattle.text.proofs.is_text.Reads as reads
-use Rattle.text.proofs.is_text.Lts as lts
 use borrow.Author.Needs.{needs}
 use native.Mathlib.Omega.{arith}
 use Prim.Native.Nat.{_<_, _-_}
