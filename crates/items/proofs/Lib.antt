@@ -1,0 +1,4 @@
+pub mod Judged
+pub mod Lookup
+pub mod Once
+pub mod Split

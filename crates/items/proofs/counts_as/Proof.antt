@@ -1,0 +1,19 @@
+use Rattle.items.proofs.counts_as.Statement.{statement}
+use Rattle.items.proofs.counts_as.Tie as tie
+use Rattle.items.proofs.counts_as.Reads as reads
+use Rattle.items.proofs.counts_as.Lts as lts
+use borrow.Author.Needs.{needs}
+use native.Mathlib.Omega.{arith}
+use Rattle.plate.proofs.Tests.{tests}
+use Rattle.items.specs.Judge.{countsAs}
+
+returns : tie.Need-returns
+unfolding countsAs
+returns c = search tests
+
+returns-2 : tie.Need-returns-2
+unfolding countsAs
+returns-2 c = search tests
+
+pub counts-as-spec : {M : Type 1} → statement M
+counts-as-spec = tie.close (tie.spec returns returns-2)
