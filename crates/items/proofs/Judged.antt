@@ -106,7 +106,8 @@ module _ (section : Section) (s : List ℕ) (base : ℕ) (flags : List Bool) (at
                 enough = omega (arith, l .enough);
                 seen = l .seen;
                 flagged = l .flagged;
-                same = simp (eq-eqb _ _ z, sym i ∙ y) at (rw (← g) at turn) }
+                same = simp (eq-eqb _ _ z, sym i ∙ y) at (rw (← g) at turn);
+              }
 
           module _ (y : b ≡ true) (t : ℕ) (r : t ≡ countsAs (getD s at 0)) (low : 0x40 ≤ t) (high : t < 0x53) where
             was-seen : getD flags (t - 0x40) false ≡ has (countsAs (getD s at 0)) (l .seen)
@@ -122,7 +123,8 @@ module _ (section : Section) (s : List ℕ) (base : ℕ) (flags : List Bool) (at
                   enough = omega (arith, l .enough);
                   seen = t ∷ l .seen;
                   flagged = flag t flags (l .seen) w low high (l .flagged);
-                  same = rw r (simp (eq-eqb _ _ z, sym i ∙ y, sym was-seen ∙ u) at (rw (← g) at turn)) }
+                  same = rw r (simp (eq-eqb _ _ z, sym i ∙ y, sym was-seen ∙ u) at (rw (← g) at turn));
+                }
 
 -- a tag under 40 or over 52 is unknown everywhere
 under : (section : Section) (t : ℕ) → t < 0x40 → isKnown (formOf section t) ≡ false

@@ -79,8 +79,9 @@ find-stands tag (i ∷ is) pre post q v e = go (eqb (i .tag) tag) e (find-stands
           low = omega arith;
           high = omega (arith, ap length b);
           bytes =
-            rw (← a, ← b, drop-append-add pre (i .tag ∷ length (i .value) ∷ (i .value ++ bytesOf is) ++ post) 2, append-assoc (i .value) (bytesOf is) post)
-            (take-append-seam (i .value) (bytesOf is ++ post)) }
+              rw (← a, ← b, drop-append-add pre (i .tag ∷ length (i .value) ∷ (i .value ++ bytesOf is) ++ post) 2, append-assoc (i .value) (bytesOf is) post)
+              (take-append-seam (i .value) (bytesOf is ++ post));
+        }
     go false e rest =
         let l : length (pre ++ head) ≡ length pre + 2 + length (i .value) = simp length-append (omega arith) in
         let r = rest (rw l e) in

@@ -73,8 +73,12 @@ split-bytes is zero h = absurd (omega arith)
 split-bytes [] (suc f) h = refl
 split-bytes (i ∷ is) (suc f) h =
     let v = i .value in
-    rw (le-leb (length v) (length (v ++ bytesOf is)) (simp length-append (omega arith)), take-append-seam v (bytesOf is), drop-append-seam v (bytesOf is),
-    split-bytes is f (omega (arith, length-append v (bytesOf is))))
+    rw (
+      le-leb (length v) (length (v ++ bytesOf is)) (simp length-append (omega arith)),
+      take-append-seam v (bytesOf is),
+      drop-append-seam v (bytesOf is),
+      split-bytes is f (omega (arith, length-append v (bytesOf is))),
+    )
 
 pub section-bytes : (is : List Item) → sectionOf (bytesOf is) ≡ record { items = is; whole = true }
 unfolding sectionOf

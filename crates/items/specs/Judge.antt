@@ -3,8 +3,8 @@ use Prim.Native.Nat.{ℕ, _+_}
 use mathlib.Core.Bool.{Bool, true, false}
 use mathlib.Core.List.{List, [], _∷_}
 use lib.ListN.{length}
-use lib.Dec.{eqb, leb}
-use Rattle.plate.specs.Choice.{pick}
+use lib.Dec.{eqb}
+use Rattle.plate.specs.Choice.{pick, within}
 use Rattle.plate.specs.Plate.{refusal}
 use Rattle.text.specs.Text.{textOk}
 use Rattle.items.specs.Items.{Item, Parts, sectionOf, sizeOf}
@@ -22,10 +22,6 @@ bad n p = Refused (refusal n p)
 abbrev pub andThen : Verdict → Verdict → Verdict
 andThen Accepted v = v
 andThen (Refused r) v = Refused r
-
--- from the first to the last, both in
-abbrev within : ℕ → ℕ → ℕ → Bool
-within first last n = pick (leb first n) (leb n last) false
 
 -- Table 4: 40 a string, 41 to 45 four bytes. Table 6: 4C and 4F strings, 4D eight bytes, 4E and 50 to 52 four. Other tags are unknown there
 unfoldable pub formOf : Section → ℕ → Form

@@ -126,18 +126,23 @@ loop-less c = search needs
 
 loop-again : tie.Need-loop-again Inv-loop μ-loop
 loop-again c =
-    let k = known-range _ _ (sym (rw (c .before .before .before .before .before .before .before .before .asked-of .ensures) at (c .before .before .before .before .is-known .ensures)) ∙ c .before .before .before .if4 .taken) in let w = c .before .wide2 .ensures ∙ c .before .before .counts-as .ensures in
-    (omega arith, search needs, on-next _ _ _ _ _ (c .before .before .before .before .before .before .before .before .before .before .before .before .before .before .before .loop .inv .2) (c .before .before .before .before .before .before .before .before .before .before .before .before .before .if1 .left) _ (c .before .before .before .before .before .before .before .before .before .before .wide .ensures) (c .before .before .before .before .before .before .before .before .before .if2 .left) _ (rw (c .before .before .before .before .before .before .before .before .asked-of .ensures, add-sub-cancel-left) at (c .before .before .before .before .before .before .fault .ensures)) (c .before .before .before .before .before .if3 .left)
-    _ (rw (c .before .before .before .before .before .before .before .before .asked-of .ensures) at (c .before .before .before .before .is-known .ensures)) (c .before .before .before .if4 .taken) _ w (omega arith) (omega arith) (c .before .before .before .before .before .before .before .before .before .before .before .before .before .before .before .loop .inv .1) (c .if5 .left))
+    let k = known-range _ _ (sym (rw (c .before .before .before .before .before .before .before .before .asked-of .ensures) at (c .before .before .before .before .is-known .ensures)) ∙ c .before .before .before .if4 .taken) in let w = c .before .wide2 .ensures ∙ c .before .before .counts-as .ensures in (
+      omega arith,
+      search needs,
+      on-next _ _ _ _ _ (c .before .before .before .before .before .before .before .before .before .before .before .before .before .before .before .loop .inv .2) (c .before .before .before .before .before .before .before .before .before .before .before .before .before .if1 .left) _ (c .before .before .before .before .before .before .before .before .before .before .wide .ensures) (c .before .before .before .before .before .before .before .before .before .if2 .left) _ (rw (c .before .before .before .before .before .before .before .before .asked-of .ensures, add-sub-cancel-left) at (c .before .before .before .before .before .before .fault .ensures)) (c .before .before .before .before .before .if3 .left)
+          _ (rw (c .before .before .before .before .before .before .before .before .asked-of .ensures) at (c .before .before .before .before .is-known .ensures)) (c .before .before .before .if4 .taken) _ w (omega arith) (omega arith) (c .before .before .before .before .before .before .before .before .before .before .before .before .before .before .before .loop .inv .1) (c .if5 .left),
+    )
 
 loop-less-2 : tie.Need-loop-less-2 Inv-loop μ-loop
 loop-less-2 c = search needs
 
 loop-again-2 : tie.Need-loop-again-2 Inv-loop μ-loop
-loop-again-2 c =
-    (omega arith, c .before .before .before .before .before .before .before .before .before .before .before .before .loop .inv .1,
-    on-unknown _ _ _ _ _ (c .before .before .before .before .before .before .before .before .before .before .before .before .loop .inv .2) (c .before .before .before .before .before .before .before .before .before .before .if1 .left) _ (c .before .before .before .before .before .before .before .wide .ensures) (c .before .before .before .before .before .before .if2 .left) _ (rw (c .before .before .before .before .before .asked-of .ensures, add-sub-cancel-left) at (c .before .before .before .fault .ensures)) (c .before .before .if3 .left)
-    _ (rw (c .before .before .before .before .before .asked-of .ensures) at (c .before .is-known .ensures)) (c .if4 .left))
+loop-again-2 c = (
+  omega arith,
+  c .before .before .before .before .before .before .before .before .before .before .before .before .loop .inv .1,
+  on-unknown _ _ _ _ _ (c .before .before .before .before .before .before .before .before .before .before .before .before .loop .inv .2) (c .before .before .before .before .before .before .before .before .before .before .if1 .left) _ (c .before .before .before .before .before .before .before .wide .ensures) (c .before .before .before .before .before .before .if2 .left) _ (rw (c .before .before .before .before .before .asked-of .ensures, add-sub-cancel-left) at (c .before .before .before .fault .ensures)) (c .before .before .if3 .left)
+      _ (rw (c .before .before .before .before .before .asked-of .ensures) at (c .before .is-known .ensures)) (c .if4 .left),
+)
 
 returns-5 : tie.Need-returns-5 Inv-loop μ-loop
 returns-5 c = on-done _ _ _ _ _ (c .before .loop .inv .2) (c .loop-test .left)

@@ -1,0 +1,71 @@
+-- What items say (RDD 14, Tables 4 and 6; 01, "Map"): numbers, codes, the material answer and the track record.
+use Prim.Native.Nat.{ℕ, _-_}
+use mathlib.Core.Bool.{Bool, false}
+use mathlib.Core.List.{List, [], _∷_}
+use lib.ListN.{length}
+use lib.Dec.{eqb}
+use Rattle.plate.specs.Choice.{pick, within}
+use Rattle.number.specs.Number.{be}
+use Rattle.items.specs.Items.{Item}
+use Rattle.items.specs.Find.{Found, missing, found, find, partOf}
+use Rattle.items.specs.Judge.{has}
+use Rattle.items.specs.declared.Part.{Part}
+use Rattle.items.specs.declared.Part.the-variants as part
+use Rattle.answer.specs.declared.Value.{Value}
+use Rattle.answer.specs.declared.Value.the-variants as value
+use Rattle.answer.specs.declared.Code.{Code}
+use Rattle.answer.specs.declared.Code.the-variants as code
+use Rattle.answer.specs.declared.Material.{Material}
+use Rattle.answer.specs.declared.Track.{Track}
+
+-- a number, most significant byte first; 9 has seen to its four bytes
+unfoldable pub valueOf : Found → Value
+valueOf missing = value.Absent
+valueOf (found p v) = pick (eqb (length v) 4) (value.Is (be v 0 4)) value.Absent
+
+-- the values of Table 6: rate (50) 1 to 8; lines (51) 1, 2, 4, 6; fields (52) 1, 2
+unfoldable pub allowed : ℕ → ℕ → Bool
+allowed tag n =
+    pick (eqb tag 0x50) (within 1 8 n)
+    (pick (eqb tag 0x51) (has n (1 ∷ 2 ∷ 4 ∷ 6 ∷ []))
+    (has n (1 ∷ 2 ∷ [])))
+
+-- INT32: all ones is −1, not applicable; one less is −2, not available; any value without a meaning counts as absent
+unfoldable pub codeOf : ℕ → Value → Code
+codeOf tag value.Absent = code.Absent
+codeOf tag (value.Is n) =
+    pick (eqb n 0xFFFFFFFF) code.NotApplicable
+    (pick (eqb n 0xFFFFFFFE) code.NotAvailable
+    (pick (allowed tag n) (code.Is n) code.Absent))
+
+-- the null name: text of one byte is a lone 00
+unfoldable pub isNull : Part → Bool
+isNull (part.At p n) = eqb n 1
+isNull part.Absent = false
+
+-- Table 4: 40 name, 41 first field, 42 last field, 43 mark in, 44 mark out, 45 size; the items begin at place p
+unfoldable pub materialOf : ℕ → List Item → Material
+materialOf p is =
+    record {
+      name = partOf (find 0x40 p is);
+      first = valueOf (find 0x41 p is);
+      last = valueOf (find 0x42 p is);
+      «mark_in» = valueOf (find 0x43 p is);
+      «mark_out» = valueOf (find 0x44 p is);
+      size = valueOf (find 0x45 p is);
+    }
+
+-- Table 6: 4C name, 4D and 4F auxiliary information, 4E version, 50 rate, 51 lines, 52 fields; a null name hides 4D, 4E and 4F
+unfoldable pub trackOf : ℕ → ℕ → ℕ → List Item → Track
+trackOf kind id p is =
+    record {
+      id = id - 0xC0;
+      kind = kind - 0x80;
+      rate = codeOf 0x50 (valueOf (find 0x50 p is));
+      lines = codeOf 0x51 (valueOf (find 0x51 p is));
+      fields = codeOf 0x52 (valueOf (find 0x52 p is));
+      version = pick (isNull (partOf (find 0x4C p is))) value.Absent (valueOf (find 0x4E p is));
+      name = partOf (find 0x4C p is);
+      aux = pick (isNull (partOf (find 0x4C p is))) part.Absent (partOf (find 0x4D p is));
+      mpeg = pick (isNull (partOf (find 0x4C p is))) part.Absent (partOf (find 0x4F p is));
+    }

@@ -1,0 +1,4 @@
+pub mod Judged
+pub mod Listed
+pub mod Once
+pub mod Split

@@ -1,0 +1,108 @@
+-- The listed tracks, counted, found by number and set by ID, a turn at a time.
+use Prim.Native.Nat.{ℕ, zero, suc, _+_, _-_, _<_, _≤_}
+use mathlib.Core.Path.{_≡_, refl, _∙_, ap}
+use mathlib.Core.List.{List, [], _∷_}
+use mathlib.Core.Bool.{Bool, true, false}
+use native.Mathlib.Omega.{arith}
+use lib.ListN.{length, getD, take, drop, set}
+use Rattle.plate.specs.Choice.{pick}
+use Rattle.number.specs.Number.{be}
+use Rattle.items.specs.Items.{sectionOf}
+use Rattle.answer.specs.Answer.{trackOf}
+use Rattle.track_section.specs.Tracks.{Description, split, tracksOf, isListed, listed, recordOf, kthOf, typesOf}
+use Rattle.track_section.specs.declared.Kth.the-variants.{Record}
+use Rattle.track_section.proofs.Split.{trackAt, items-length, split-done, split-short, split-over, split-track}
+
+-- what is left of the tracks from a place on, and what there is of the whole, for any way to measure them
+pub record Left {A : Type 0} (s : List ℕ) (at : ℕ) (whole : A) (measure : List Description → A) : Type 0 where
+  pub fuel : ℕ
+  pub enough : length s - at < fuel
+  pub same : whole ≡ measure (split fuel (drop at s) .list)
+
+pub start : {A : Type 0} (s : List ℕ) (whole : A) (measure : List Description → A) → whole ≡ measure (tracksOf s .list) → Left s 0 whole measure
+unfolding tracksOf
+start s whole measure e = record { fuel = suc (length s); enough = omega arith; same = e }
+
+module _ {A : Type 0} (s : List ℕ) (at : ℕ) (whole : A) (measure : List Description → A) (l : Left s at whole measure) where
+  pub on-done : length s ≤ at → whole ≡ measure []
+  on-done h = l .same ∙ rw (split-done s at (l .fuel) (omega (arith, l .enough)) h)
+
+  pub on-short : at < length s → length s - at < 4 → whole ≡ measure []
+  on-short h k = l .same ∙ rw (split-short s at (l .fuel) (omega (arith, l .enough)) h k)
+
+  module _ (h : 4 ≤ length s - at) (n : ℕ) (e : n ≡ be s (at + 2) 2) where
+    pub on-over : length s - at - 4 < n → whole ≡ measure []
+    on-over k = l .same ∙ rw (split-over s at (l .fuel) (omega (arith, l .enough)) n h e k)
+
+    -- one track more: what it adds is the next measure
+    pub on-track : n ≤ length s - at - 4 → (next : List Description → A) → ((ds : List Description) → measure (trackAt s at n ∷ ds) ≡ next ds) → Left s (at + 4 + n) whole next
+    on-track k next w =
+        record {
+          fuel = l .fuel - 1;
+          enough = omega (arith, l .enough);
+          same = l .same ∙ rw (split-track s at (l .fuel) (omega (arith, l .enough)) n h e k) (w (split (l .fuel - 1) (drop (at + 4 + n) s) .list));
+        }
+
+pub one-at-most : (b : Bool) → pick b 1 0 ≤ 1
+one-at-most true = omega arith
+one-at-most false = omega arith
+
+-- the number of listed tracks is the same whatever their place
+pub count-anywhere : (p q : ℕ) (ds : List Description) → length (listed p ds) ≡ length (listed q ds)
+unfolding listed
+count-anywhere p q [] = refl
+count-anywhere p q (d ∷ ds) = go (isListed d) (count-anywhere (p + 4 + length (d .items)) (q + 4 + length (d .items)) ds)
+  where
+    go : (b : Bool) → length (listed (p + 4 + length (d .items)) ds) ≡ length (listed (q + 4 + length (d .items)) ds)
+        → length (pick b (record { at = p; track = d } ∷ listed (p + 4 + length (d .items)) ds) (listed (p + 4 + length (d .items)) ds))
+        ≡ length (pick b (record { at = q; track = d } ∷ listed (q + 4 + length (d .items)) ds) (listed (q + 4 + length (d .items)) ds))
+    go true e = ap suc e
+    go false e = e
+
+module _ (d : Description) where
+  -- one track more, in each measure
+  pub count-turn : (m : ℕ) (ds : List Description) → m + length (listed 0 (d ∷ ds)) ≡ m + pick (isListed d) 1 0 + length (listed 0 ds)
+  unfolding listed
+  count-turn m ds = go (isListed d) (count-anywhere (0 + 4 + length (d .items)) 0 ds)
+    where
+      go : (b : Bool) → length (listed (0 + 4 + length (d .items)) ds) ≡ length (listed 0 ds)
+          → m + length (pick b (record { at = 0; track = d } ∷ listed (0 + 4 + length (d .items)) ds) (listed (0 + 4 + length (d .items)) ds)) ≡ m + pick b 1 0 + length (listed 0 ds)
+      go true e = omega arith
+      go false e = omega arith
+
+  pub kth-other : (k p : ℕ) → isListed d ≡ false → (ds : List Description) → kthOf k (listed p (d ∷ ds)) ≡ kthOf k (listed (p + 4 + length (d .items)) ds)
+  unfolding listed
+  kth-other k p e ds = rw e
+
+  pub kth-later : (k p : ℕ) → zero < k → isListed d ≡ true → (ds : List Description) → kthOf k (listed p (d ∷ ds)) ≡ kthOf (k - 1) (listed (p + 4 + length (d .items)) ds)
+  unfolding listed kthOf
+  kth-later zero p h e ds = absurd (omega arith)
+  kth-later (suc k) p h e ds = let a : suc k - 1 ≡ k = omega arith in rw (e, a)
+
+  pub kth-here : (p : ℕ) → isListed d ≡ true → (ds : List Description) → kthOf 0 (listed p (d ∷ ds)) ≡ Record (recordOf (record { at = p; track = d }))
+  unfolding listed kthOf
+  kth-here p e ds = rw e
+
+  pub type-turn : (t : List ℕ) (ds : List Description) → typesOf t (d ∷ ds) ≡ typesOf (pick (isListed d) (set t (d .id - 0xC0) (d .kind - 0x80)) t) ds
+  unfolding typesOf
+  type-turn t ds = refl
+
+-- the k-th track from a place on: one that is not listed, one before it, and it
+module _ (s : List ℕ) (base at n : ℕ) (h : n ≤ length s - at - 4) where
+  next : base + at + 4 + length (trackAt s at n .items) ≡ base + (at + 4 + n)
+  next = omega (arith, items-length s at n h)
+
+  pub pass-other : (k : ℕ) → isListed (trackAt s at n) ≡ false → (ds : List Description)
+      → kthOf k (listed (base + at) (trackAt s at n ∷ ds)) ≡ kthOf k (listed (base + (at + 4 + n)) ds)
+  pass-other k e ds = kth-other (trackAt s at n) k (base + at) e ds ∙ rw next
+
+  pub pass-listed : (k : ℕ) → (k ≡ 0 → ⊥) → isListed (trackAt s at n) ≡ true → (ds : List Description)
+      → kthOf k (listed (base + at) (trackAt s at n ∷ ds)) ≡ kthOf (k - 1) (listed (base + (at + 4 + n)) ds)
+  pass-listed k z e ds = kth-later (trackAt s at n) k (base + at) (omega arith) e ds ∙ rw next
+
+  pub here : (k : ℕ) → k ≡ 0 → isListed (trackAt s at n) ≡ true → (ds : List Description)
+      → kthOf k (listed (base + at) (trackAt s at n ∷ ds)) ≡ Record (trackOf (getD s at 0) (getD s (at + 1) 0) (base + (at + 4)) (sectionOf (take n (drop (at + 4) s)) .items))
+  unfolding recordOf
+  here k z e ds =
+      let a : base + at + 4 ≡ base + (at + 4) = omega arith in
+      rw z (kth-here (trackAt s at n) (base + at) e ds ∙ rw a)

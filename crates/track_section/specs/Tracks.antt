@@ -1,0 +1,114 @@
+-- The track section (RDD 14, 7.1.3; 01, "Map"): taken apart by lengths alone, judged in walk order, and its listed tracks.
+use Prim.Native.Nat.{ℕ, zero, suc, _+_, _-_, _*_}
+use mathlib.Core.Bool.{Bool}
+use mathlib.Core.List.{List, [], _∷_}
+use lib.ListN.{length, take, drop, set}
+use lib.Dec.{ltb, leb}
+use Rattle.plate.specs.Choice.{pick}
+use Rattle.media_type.specs.MediaType.{knownType}
+use Rattle.items.specs.Items.{sectionOf}
+use Rattle.items.specs.Judge.{bad, andThen, has, verdictOf}
+use Rattle.items.specs.declared.Section.the-variants as section
+use Rattle.items.specs.declared.Verdict.{Verdict}
+use Rattle.items.specs.declared.Verdict.the-variants.{Accepted}
+use Rattle.answer.specs.Answer.{trackOf}
+use Rattle.answer.specs.declared.Track.{Track}
+use Rattle.track_section.specs.declared.Kth.{Kth}
+use Rattle.track_section.specs.declared.Kth.the-variants.{Record, Nothing}
+
+-- a track: its type byte, its ID byte and the bytes of its items
+pub record Description : Type 0 where
+  pub kind : ℕ
+  pub id : ℕ
+  pub items : List ℕ
+
+-- how a section ends: where a track ends, with a header cut short, or with a track of that type and ID whose items pass it
+pub data End : Type 0 where
+  over : End
+  short : End
+  hangs : ℕ → ℕ → End
+
+pub record Descriptions : Type 0 where
+  pub list : List Description
+  pub end : End
+
+abbrev pub none : End → Descriptions
+none e = record { list = []; end = e }
+
+-- one track more in front
+abbrev pub after : Description → Descriptions → Descriptions
+after d ds = record { list = d ∷ ds .list; end = ds .end }
+
+-- type, ID, a 16-bit length and that many bytes; f is more than the tracks that can follow
+unfoldable pub split : ℕ → List ℕ → Descriptions
+split zero s = none over
+split (suc f) [] = none over
+split (suc f) (k ∷ []) = none short
+split (suc f) (k ∷ i ∷ []) = none short
+split (suc f) (k ∷ i ∷ h ∷ []) = none short
+split (suc f) (k ∷ i ∷ h ∷ l ∷ s) =
+    pick (leb (h * 256 + l) (length s))
+    (after (record { kind = k; id = i; items = take (h * 256 + l) s }) (split f (drop (h * 256 + l) s)))
+    (none (hangs k i))
+
+unfoldable pub tracksOf : List ℕ → Descriptions
+tracksOf s = split (suc (length s)) s
+
+-- 12: a type byte under 80 or an ID byte under C0
+abbrev pub onBytes : ℕ → ℕ → ℕ → Verdict → Verdict
+onBytes k i p next = pick (ltb k 0x80) (bad 12 p) (pick (ltb i 0xC0) (bad 12 p) next)
+
+-- what a track must meet once its items have passed: nothing yet
+abbrev pub trackOver : ℕ → List ℕ → ℕ → Verdict
+trackOver kind items p = Accepted
+
+-- a track's items, from place p on, and its end
+unfoldable pub trackVerdict : ℕ → List ℕ → ℕ → Verdict
+trackVerdict kind items p = andThen (verdictOf section.Track items p) (trackOver kind items p)
+
+-- the end of a section at place p: 8 for missing bytes, 12, 8 for overhang
+unfoldable pub endVerdict : ℕ → End → Verdict
+endVerdict p over = Accepted
+endVerdict p short = bad 8 p
+endVerdict p (hangs k i) = onBytes k i p (bad 8 p)
+
+-- tracks from place p on, after tracks of these IDs: 12, 10 for an ID seen before, listed or not, then the items
+unfoldable pub judgeTracks : List ℕ → ℕ → List Description → End → Verdict
+judgeTracks ids p [] e = endVerdict p e
+judgeTracks ids p (d ∷ ds) e =
+    onBytes (d .kind) (d .id) p
+    (pick (has (d .id) ids) (bad 10 p)
+    (andThen (trackVerdict (d .kind) (d .items) (p + 4)) (judgeTracks (d .id ∷ ids) (p + 4 + length (d .items)) ds e)))
+
+unfoldable pub tracksVerdict : List ℕ → ℕ → Verdict
+tracksVerdict s p = judgeTracks [] p (tracksOf s .list) (tracksOf s .end)
+
+-- a track of known media type is listed
+unfoldable pub isListed : Description → Bool
+isListed d = knownType (d .kind - 0x80)
+
+-- a track and the place of its type byte
+pub record Placed : Type 0 where
+  pub at : ℕ
+  pub track : Description
+
+-- the listed tracks, in map order
+unfoldable pub listed : ℕ → List Description → List Placed
+listed p [] = []
+listed p (d ∷ ds) =
+    pick (isListed d) (record { at = p; track = d } ∷ listed (p + 4 + length (d .items)) ds) (listed (p + 4 + length (d .items)) ds)
+
+-- the record of a track
+unfoldable pub recordOf : Placed → Track
+recordOf x = trackOf (x .track .kind) (x .track .id) (x .at + 4) (sectionOf (x .track .items) .items)
+
+-- the record of the k-th
+unfoldable pub kthOf : ℕ → List Placed → Kth
+kthOf k [] = Nothing
+kthOf zero (x ∷ xs) = Record (recordOf x)
+kthOf (suc k) (x ∷ xs) = kthOf k xs
+
+-- by ID, the media type under which a track is listed, and 0 where none is
+unfoldable pub typesOf : List ℕ → List Description → List ℕ
+typesOf types [] = types
+typesOf types (d ∷ ds) = typesOf (pick (isListed d) (set types (d .id - 0xC0) (d .kind - 0x80)) types) ds

@@ -1,0 +1,204 @@
+// The track section of a map: its verdict in walk order, the number of its listed tracks, their records, and their types by ID.
+// It serves the map reader, which hands it a part of a packet; what asks for bounds here is met there for every input.
+use answer::Track;
+use items::Section;
+use items::Verdict;
+ghost use mathlib.Core.Path.{_≡_};
+ghost use mathlib.Core.Bool.{true, false};
+ghost use Prim.Native.Nat.{_+_, _-_, _<_, _≤_, _^_};
+ghost use lib.ListN.{length, set, replicate};
+ghost use Rattle.plate.specs.Choice.{pick};
+ghost use Rattle.media_type.specs.MediaType.{knownType};
+ghost use Rattle.track_section.specs.Seen.{holds, Empty, Adds};
+ghost use Rattle.track_section.specs.Tracks.{trackVerdict, tracksOf, tracksVerdict, listed, kthOf, typesOf};
+
+// The track IDs seen so far.
+pub struct Seen {
+    pub flags: [bool; 64],
+}
+
+// By ID, the type under which a track is listed; 0 where none is.
+pub struct Types {
+    pub kinds: [u8; 64],
+}
+
+// The listed track of a number, if there is one.
+pub enum Kth {
+    Record(Track),
+    Nothing,
+}
+
+fn nobody() -> Seen
+    ensures { λ r. ⌜ Empty r ⌝ }
+{
+    Seen { flags: [false; 64] }
+}
+
+fn has(seen: Seen, id: u8) -> bool
+    requires { ⌜ 0xC0 ≤ id ⌝ }
+    ensures { λ r. ⌜ r ≡ holds seen id ⌝ }
+{
+    let k = number::wide(id) - 0xC0;
+    seen.flags[k]
+}
+
+fn with(seen: Seen, id: u8) -> Seen
+    requires { ⌜ 0xC0 ≤ id ⌝ }
+    ensures { λ r. ⌜ Adds seen id r ⌝ }
+{
+    let k = number::wide(id) - 0xC0;
+    let mut next = seen;
+    next.flags[k] = true;
+    next
+}
+
+// Whether a track of a type byte is listed.
+fn is_listed(kind: u8) -> bool
+    ensures { λ r. ⌜ r ≡ knownType (kind - 0x80) ⌝ }
+{
+    media_type::is_known(answer::bare(kind, 0x80))
+}
+
+fn one_if_listed(kind: u8) -> usize
+    ensures { λ r. ⌜ r ≡ pick (knownType (kind - 0x80)) 1 0 ⌝ }
+{
+    if is_listed(kind) {
+        return 1;
+    }
+    0
+}
+
+// The types by ID with those of one track more, if it is listed.
+fn with_type(table: Types, kind: u8, id: u8) -> Types
+    ensures { λ r. ⌜ r .kinds ≡ pick (knownType (kind - 0x80)) (set (table .kinds) (id - 0xC0) (kind - 0x80)) (table .kinds) ⌝ }
+{
+    if is_listed(kind) {
+        let mut next = table;
+        let k = number::wide(answer::bare(id, 0xC0));
+        next.kinds[k] = answer::bare(kind, 0x80);
+        return next;
+    }
+    table
+}
+
+// The verdict on a track's items, from place base of the packet on, and on its end.
+fn judge_track(kind: u8, s: &[u8], base: usize) -> Verdict
+    requires { ⌜ base + length (now s) < 2 ^ 64 ⌝ }
+    ensures { λ r. ⌜ r ≡ trackVerdict kind (now (s .entry)) base ⌝ }
+{
+    items::judge(Section::Track, s, base)
+}
+
+// The first fault of a track section that begins at place base of its packet.
+pub fn judge(s: &[u8], base: usize) -> Verdict
+    requires { ⌜ base + length (now s) < 2 ^ 64 ⌝ }
+    ensures { λ r. ⌜ r ≡ tracksVerdict (now (s .entry)) base ⌝ }
+{
+    let mut seen = nobody();
+    let mut at: usize = 0;
+    while at < s.len() {
+        let left = s.len() - at;
+        if left < 4 {
+            return items::refused(plate::OVERHANG, base + at);
+        }
+        let kind = s[at];
+        let id = s[at + 1];
+        if kind < 0x80 {
+            return items::refused(plate::TYPE_OR_ID, base + at);
+        }
+        if id < 0xC0 {
+            return items::refused(plate::TYPE_OR_ID, base + at);
+        }
+        let n = number::be_at(s, at + 2, 2);
+        if left - 4 < n {
+            return items::refused(plate::OVERHANG, base + at);
+        }
+        if has(seen, id) {
+            return items::refused(plate::TWICE, base + at);
+        }
+        let a = at + 4;
+        let e = a + n;
+        match judge_track(kind, &s[a..e], base + a) {
+            Verdict::Refused(r) => {
+                return Verdict::Refused(r);
+            }
+            Verdict::Accepted => {
+                seen = with(seen, id);
+                at = e;
+            }
+        }
+    }
+    Verdict::Accepted
+}
+
+// How many tracks a section lists.
+pub fn count(s: &[u8]) -> usize
+    ensures { λ r. ⌜ r ≡ length (listed 0 (tracksOf (now (s .entry)) .list)) ⌝ }
+{
+    let mut found: usize = 0;
+    let mut at: usize = 0;
+    while at < s.len() {
+        let left = s.len() - at;
+        if left < 4 {
+            return found;
+        }
+        let n = number::be_at(s, at + 2, 2);
+        if left - 4 < n {
+            return found;
+        }
+        found += one_if_listed(s[at]);
+        at = at + 4 + n;
+    }
+    found
+}
+
+// The record of the k-th listed track, from 0, of a section that begins at place base of its packet.
+pub fn kth_record(s: &[u8], base: usize, k: usize) -> Kth
+    requires { ⌜ base + length (now s) < 2 ^ 64 ⌝ }
+    ensures { λ r. ⌜ r ≡ kthOf k (listed base (tracksOf (now (s .entry)) .list)) ⌝ }
+{
+    let mut before = k;
+    let mut at: usize = 0;
+    while at < s.len() {
+        let left = s.len() - at;
+        if left < 4 {
+            return Kth::Nothing;
+        }
+        let n = number::be_at(s, at + 2, 2);
+        if left - 4 < n {
+            return Kth::Nothing;
+        }
+        let a = at + 4;
+        let e = a + n;
+        let kind = s[at];
+        if is_listed(kind) {
+            if before == 0 {
+                return Kth::Record(answer::record(kind, s[at + 1], &s[a..e], base + a));
+            }
+            before -= 1;
+        }
+        at = e;
+    }
+    Kth::Nothing
+}
+
+// The listed IDs of a section, with their types.
+pub fn types_by_id(s: &[u8]) -> Types
+    ensures { λ r. ⌜ r .kinds ≡ typesOf (replicate 64 0) (tracksOf (now (s .entry)) .list) ⌝ }
+{
+    let mut table = Types { kinds: [0u8; 64] };
+    let mut at: usize = 0;
+    while at < s.len() {
+        let left = s.len() - at;
+        if left < 4 {
+            return table;
+        }
+        let n = number::be_at(s, at + 2, 2);
+        if left - 4 < n {
+            return table;
+        }
+        table = with_type(table, s[at], s[at + 1]);
+        at = at + 4 + n;
+    }
+    table
+}
