@@ -4,9 +4,27 @@ use mathlib.Core.Path.{_≡_, refl}
 use mathlib.Core.List.{List, [], _∷_, _++_}
 use lib.ListN.{replicate, take}
 use Rattle.number.specs.Number.{be}
-use Rattle.packet.specs.Packet.{headerAt, sizedAt, refused}
+use Rattle.media_type.specs.MediaType.{knownType}
+use Rattle.text.specs.Text.{textOk}
+use Rattle.packet.specs.Packet.{headerAt, sizedAt, packetAt, refused}
 use Rattle.packet.specs.declared.PacketAnswer.{PacketAnswer}
 use Rattle.packet.specs.declared.PacketAnswer.the-variants.{Whole}
+use Rattle.plate.specs.Plate.{refusal}
+use Rattle.items.specs.Items as items
+use Rattle.items.specs.Judge as judge
+use Rattle.items.specs.Find as find
+use Rattle.items.specs.declared.Part.the-variants as part
+use Rattle.answer.specs.Answer as answer
+use Rattle.answer.specs.declared.Value.the-variants as value
+use Rattle.answer.specs.declared.Code.{Code}
+use Rattle.answer.specs.declared.Code.the-variants as code
+use Rattle.track_section.specs.Tracks as tracks
+use Rattle.map.specs.Map as map
+use Rattle.map.specs.declared.MapAnswer.{MapAnswer}
+use Rattle.map.specs.declared.MapAnswer.the-variants as map-answer
+use Rattle.map.specs.declared.TrackAnswer.{TrackAnswer}
+use Rattle.map.specs.declared.TrackAnswer.the-variants as track-answer
+use Rattle.name.specs.Name as name
 
 -- a reading: what the definitions give, and what the paper says
 pub record Reading : Type 1 where
@@ -23,8 +41,73 @@ Agree (r ∷ rs) = (r .gives ≡ r .says) × Agree rs
 abbrev pub headed : ℕ → ℕ → List ℕ
 headed kind len = 0 ∷ 0 ∷ 0 ∷ 0 ∷ 1 ∷ kind ∷ 0 ∷ 0 ∷ 0 ∷ len ∷ 0 ∷ 0 ∷ 0 ∷ 0 ∷ 0xE1 ∷ 0xE2 ∷ []
 
+-- the bench map: its payload's front, with the track section's length and the track's, and its rate item
+abbrev upToRate : ℕ → ℕ → List ℕ
+upToRate section track =
+    0xE0 ∷ 0xFF ∷ 0x00 ∷ 0x06 ∷ 0x41 ∷ 0x04 ∷ 0x00 ∷ 0x00 ∷ 0x00 ∷ 0x00 ∷ 0x00 ∷ section ∷ 0x8A ∷ 0xC1 ∷ 0x00 ∷ track ∷ 0x4C ∷ 0x03 ∷ 0x41 ∷ 0x31 ∷ 0x00 ∷ []
+
+abbrev rateItem : ℕ → ℕ → List ℕ
+rateItem high low = 0x50 ∷ 0x04 ∷ high ∷ high ∷ high ∷ low ∷ []
+
+abbrev pub M : List ℕ
+M = headed 0xBC 0x2C ++ upToRate 0x0F 0x0B ++ rateItem 0xFF 0xFE ++ (0 ∷ [])
+
+-- with `7E 01 55` after the rate
+abbrev newer : List ℕ
+newer = headed 0xBC 0x30 ++ upToRate 0x12 0x0E ++ rateItem 0xFF 0xFE ++ (0x7E ∷ 0x01 ∷ 0x55 ∷ 0 ∷ 0 ∷ [])
+
+-- with rate 9
+abbrev reserved : List ℕ
+reserved = headed 0xBC 0x2C ++ upToRate 0x0F 0x0B ++ rateItem 0x00 0x09 ++ (0 ∷ [])
+
+-- with 50 of length 3, nothing else changed
+abbrev shorter : List ℕ
+shorter = headed 0xBC 0x2C ++ upToRate 0x0F 0x0B ++ (0x50 ∷ 0x03 ∷ 0xFF ∷ 0xFF ∷ 0xFF ∷ 0xFE ∷ 0 ∷ [])
+
 abbrev header : List ℕ → PacketAnswer → Reading
 header s a = record { Answer = PacketAnswer; gives = headerAt s 0; says = a }
+
+-- a map's answer: one listed track, first field 0
+abbrev firstField0 : MapAnswer
+firstField0 =
+    map-answer.Says
+    (record {
+      count = 1;
+      material =
+          record {
+            name = part.Absent;
+            first = value.Is 0;
+            last = value.Absent;
+            «mark_in» = value.Absent;
+            «mark_out» = value.Absent;
+            size = value.Absent;
+          };
+    })
+
+-- its track: ID 1, type 10, a name of three stored bytes at 34, and a rate
+abbrev track1 : Code → TrackAnswer
+track1 rate =
+    track-answer.Record
+    (record {
+      id = 1;
+      kind = 10;
+      rate = rate;
+      lines = code.Absent;
+      fields = code.Absent;
+      version = value.Absent;
+      name = part.At 34 3;
+      aux = part.Absent;
+      mpeg = part.Absent;
+    })
+
+abbrev mapOf : List ℕ → MapAnswer → Reading
+mapOf s a = record { Answer = MapAnswer; gives = map.mapAt s 0; says = a }
+
+abbrev trackOf : List ℕ → TrackAnswer → Reading
+trackOf s a = record { Answer = TrackAnswer; gives = map.trackAt s 0 0; says = a }
+
+abbrev nameOf : List ℕ → List ℕ → Reading
+nameOf s a = record { Answer = List ℕ; gives = name.nameBytes s (name.nameAt s 1); says = a }
 
 pub readings : List Reading
 readings =
@@ -35,8 +118,20 @@ readings =
     ∷ header (headed 0xFB 12) (refused 4 0)
     -- length 20 with 19 bytes: 5
     ∷ header (headed 0xFB 20 ++ replicate 3 0) (refused 5 0)
+    -- M: first field 0, track 1, type 10, name A1, rate not available
+    ∷ mapOf M firstField0
+    ∷ trackOf M (track1 code.NotAvailable)
+    ∷ nameOf M (0x41 ∷ 0x31 ∷ [])
+    -- M with `7E 01 55` after the rate: the same answer
+    ∷ mapOf newer firstField0
+    ∷ trackOf newer (track1 code.NotAvailable)
+    ∷ nameOf newer (0x41 ∷ 0x31 ∷ [])
+    -- M with rate 9: rate absent
+    ∷ trackOf reserved (track1 code.Absent)
+    -- M with 50 of length 3: 9 at 37
+    ∷ mapOf shorter (map-answer.Refused (refusal 9 37))
     ∷ []
 
 pub readings-agree : Agree readings
-unfolding readings headerAt sizedAt be
-readings-agree = (refl, (refl, (refl, (refl, tt))))
+unfolding readings headerAt sizedAt packetAt be knownType textOk items.split items.sectionOf items.sizeOf judge.formOf judge.isKnown judge.faultOf judge.countsAs judge.has judge.judgeItems judge.verdictOf find.find answer.valueOf answer.allowed answer.codeOf answer.isNull answer.materialOf answer.trackOf tracks.split tracks.tracksOf tracks.trackVerdict tracks.endVerdict tracks.judgeTracks tracks.tracksVerdict tracks.isListed tracks.listed tracks.recordOf tracks.kthOf tracks.idOf map.afterMaterial map.layoutOf map.bothVerdict map.sectionsVerdict map.mapVerdict map.materialSays map.listedIn map.answerOf map.trackIn map.mapAt map.trackAt name.openedOf name.unended name.nameIn name.nameAt
+readings-agree = (refl, (refl, (refl, (refl, (refl, (refl, (refl, (refl, (refl, (refl, (refl, (refl, tt))))))))))))

@@ -1,22 +1,21 @@
 -- The judge of a section, a turn at a time: what is left to do from a place on is the whole answer.
-use Prim.Native.Nat.{ℕ, zero, suc, _+_, _-_, _<_, _≤_}
-use mathlib.Core.Path.{_≡_, refl, sym, _∙_, ap}
+use Prim.Native.Nat.{ℕ, suc, _+_, _-_, _<_, _≤_}
+use mathlib.Core.Path.{_≡_, refl, sym, _∙_}
 use mathlib.Core.List.{List, [], _∷_}
 use mathlib.Core.Bool.{Bool, true, false}
 use native.Mathlib.Omega.{arith}
 use native.Mathlib.Nat.{add-zero}
 use lib.ListN.{length, getD, set, take, drop, replicate, getD-replicate}
 use lib.Seq.{getD-set-same, getD-set-other}
-use lib.Dec.{eqb, leb, ltb}
+use lib.Dec.{eqb, ltb}
 use borrow.Author.Tests.{eq-eqb, ne-eqb, eqb-true, eqb-false, le-leb, lt-leb, ltb-true, ltb-false}
 use Rattle.plate.specs.Choice.{pick}
 use Rattle.items.specs.Items.{Item, Parts, after, split, sectionOf, sizeOf}
 use Rattle.items.specs.Judge.{bad, andThen, formOf, isKnown, faultOf, countsAs, has, onItem, judgeItems, ending, judgeParts, verdictOf}
 use Rattle.items.specs.declared.Section.{Section}
 use Rattle.items.specs.declared.Section.the-variants.{Material, Track}
-use Rattle.items.specs.declared.Verdict.{Verdict}
-use Rattle.items.specs.declared.Verdict.the-variants.{Accepted, Refused}
-use Rattle.items.proofs.Split.{clean, torn, itemAt, value-length, split-done, split-short, split-over, split-item}
+use Rattle.items.specs.declared.Verdict.the-variants.{Accepted}
+use Rattle.items.proofs.Split.{itemAt, value-length, split-done, split-short, split-over, split-item}
 
 -- one item more in front is one turn of the judge
 parts-turn : (section : Section) (seen : List ℕ) (p : ℕ) (i : Item) (rest : Parts)

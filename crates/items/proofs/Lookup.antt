@@ -1,6 +1,6 @@
 -- An item found by its tag, a turn at a time, and what is known of it.
-use Prim.Native.Nat.{ℕ, zero, suc, _+_, _-_, _<_, _≤_}
-use mathlib.Core.Path.{_≡_, refl, sym, _∙_, ap}
+use Prim.Native.Nat.{ℕ, suc, _+_, _-_, _<_, _≤_}
+use mathlib.Core.Path.{_≡_, sym, _∙_, ap}
 use mathlib.Core.List.{List, [], _∷_, _++_, append-assoc}
 use mathlib.Core.Bool.{Bool, true, false}
 use native.Mathlib.Omega.{arith}
@@ -10,11 +10,10 @@ use lib.Seq.{take-append-seam, drop-append-add}
 use lib.Dec.{eqb}
 use borrow.Author.Tests.{eq-eqb, ne-eqb}
 use Rattle.plate.specs.Choice.{pick}
-use Rattle.items.specs.Items.{Item, Parts, after, split, sectionOf, sizeOf, bytesOf}
-use Rattle.items.specs.Find.{Found, missing, found, find, partOf}
-use Rattle.items.specs.declared.Part.{Part}
+use Rattle.items.specs.Items.{Item, split, sectionOf, sizeOf, bytesOf}
+use Rattle.items.specs.Find.{found, find, partOf}
 use Rattle.items.specs.declared.Part.the-variants.{At, Absent}
-use Rattle.items.proofs.Split.{clean, torn, itemAt, value-length, split-done, split-short, split-over, split-item, length-bytes, section-front}
+use Rattle.items.proofs.Split.{value-length, split-done, split-short, split-over, split-item, length-bytes, section-front}
 
 -- what is left to find from a place on is the whole answer
 pub record Left (tag : ℕ) (s : List ℕ) (base at : ℕ) : Type 0 where

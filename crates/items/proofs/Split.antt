@@ -7,7 +7,7 @@ use native.Mathlib.Omega.{arith}
 use lib.ListN.{length, getD, take, drop, drop-of-length-le, length-drop, length-append, take-append-drop}
 use lib.Seq.{drop-cons, drop-drop, length-take-le, take-append-seam, drop-append-seam}
 use lib.Dec.{leb}
-use borrow.Author.Tests.{le-leb, lt-leb, leb-true, leb-false}
+use borrow.Author.Tests.{le-leb, lt-leb, leb-true}
 use Rattle.plate.specs.Choice.{pick}
 use Rattle.items.specs.Items.{Item, Parts, after, split, sectionOf, sizeOf, bytesOf}
 

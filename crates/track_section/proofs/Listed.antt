@@ -5,11 +5,13 @@ use mathlib.Core.List.{List, [], _∷_}
 use mathlib.Core.Bool.{Bool, true, false}
 use native.Mathlib.Omega.{arith}
 use lib.ListN.{length, getD, take, drop, set}
+use lib.Dec.{eqb}
+use borrow.Author.Tests.{eq-eqb, ne-eqb}
 use Rattle.plate.specs.Choice.{pick}
 use Rattle.number.specs.Number.{be}
 use Rattle.items.specs.Items.{sectionOf}
 use Rattle.answer.specs.Answer.{trackOf}
-use Rattle.track_section.specs.Tracks.{Description, split, tracksOf, isListed, listed, recordOf, kthOf, typesOf}
+use Rattle.track_section.specs.Tracks.{Description, split, tracksOf, isListed, listed, recordOf, kthOf, idOf, typesOf}
 use Rattle.track_section.specs.declared.Kth.the-variants.{Record}
 use Rattle.track_section.proofs.Split.{trackAt, items-length, split-done, split-short, split-over, split-track}
 
@@ -83,6 +85,15 @@ module _ (d : Description) where
   unfolding listed kthOf
   kth-here p e ds = rw e
 
+  pub id-other : (id p : ℕ) → isListed d ≡ false → (ds : List Description) → idOf id (listed p (d ∷ ds)) ≡ idOf id (listed (p + 4 + length (d .items)) ds)
+  unfolding listed
+  id-other id p e ds = rw e
+
+  pub id-listed : (id p : ℕ) → isListed d ≡ true → (ds : List Description)
+      → idOf id (listed p (d ∷ ds)) ≡ pick (eqb (d .id - 0xC0) id) (Record (recordOf (record { at = p; track = d }))) (idOf id (listed (p + 4 + length (d .items)) ds))
+  unfolding listed idOf
+  id-listed id p e ds = rw e
+
   pub type-turn : (t : List ℕ) (ds : List Description) → typesOf t (d ∷ ds) ≡ typesOf (pick (isListed d) (set t (d .id - 0xC0) (d .kind - 0x80)) t) ds
   unfolding typesOf
   type-turn t ds = refl
@@ -106,3 +117,19 @@ module _ (s : List ℕ) (base at n : ℕ) (h : n ≤ length s - at - 4) where
   here k z e ds =
       let a : base + at + 4 ≡ base + (at + 4) = omega arith in
       rw z (kth-here (trackAt s at n) (base + at) e ds ∙ rw a)
+
+  pub id-pass-other : (id : ℕ) → isListed (trackAt s at n) ≡ false → (ds : List Description)
+      → idOf id (listed (base + at) (trackAt s at n ∷ ds)) ≡ idOf id (listed (base + (at + 4 + n)) ds)
+  id-pass-other id e ds = id-other (trackAt s at n) id (base + at) e ds ∙ rw next
+
+  module _ (id : ℕ) (e : isListed (trackAt s at n) ≡ true) where
+    pub id-pass-listed : (getD s (at + 1) 0 - 0xC0 ≡ id → ⊥) → (ds : List Description)
+        → idOf id (listed (base + at) (trackAt s at n ∷ ds)) ≡ idOf id (listed (base + (at + 4 + n)) ds)
+    id-pass-listed z ds = id-listed (trackAt s at n) id (base + at) e ds ∙ rw (ne-eqb _ _ z, next)
+
+    pub id-here : getD s (at + 1) 0 - 0xC0 ≡ id → (ds : List Description)
+        → idOf id (listed (base + at) (trackAt s at n ∷ ds)) ≡ Record (trackOf (getD s at 0) (getD s (at + 1) 0) (base + (at + 4)) (sectionOf (take n (drop (at + 4) s)) .items))
+    unfolding recordOf
+    id-here z ds =
+        let a : base + at + 4 ≡ base + (at + 4) = omega arith in
+        id-listed (trackAt s at n) id (base + at) e ds ∙ rw (eq-eqb _ _ z, a)

@@ -1,16 +1,17 @@
 -- A track section's split at a place.
-use Prim.Native.Nat.{ℕ, zero, suc, _+_, _-_, _*_, _<_, _≤_}
+use Prim.Native.Nat.{ℕ, zero, suc, _+_, _-_, _*_, _/_, _%_, _<_, _≤_}
 use mathlib.Core.Path.{_≡_, refl, sym, _∙_}
-use mathlib.Core.List.{List, [], _∷_}
+use mathlib.Core.List.{List, [], _∷_, _++_}
 use native.Mathlib.Omega.{arith}
 use native.Mathlib.Nat.{add-zero}
-use lib.ListN.{length, getD, take, drop, drop-of-length-le, length-drop}
-use lib.Seq.{drop-cons, drop-drop, length-take-le}
+use lib.ListN.{length, getD, take, drop, drop-of-length-le, length-drop, length-append}
+use lib.Seq.{drop-cons, drop-drop, length-take-le, take-append-seam, drop-append-seam}
 use lib.Dec.{leb}
-use borrow.Author.Tests.{le-leb, lt-leb}
+use borrow.Author.Tests.{le-leb, lt-leb, leb-true}
 use Rattle.plate.specs.Choice.{pick}
-use Rattle.number.specs.Number.{be}
-use Rattle.track_section.specs.Tracks.{Description, over, short, hangs, none, after, split}
+use Rattle.number.specs.Number.{be, beBytes}
+use Rattle.track_section.specs.Tracks.{Description, over, short, hangs, none, after, split, sizeOf, bytesOf, tracksOf}
+use mathlib.Core.Bool.{Bool, true, false}
 
 -- the track at a place
 abbrev pub trackAt : List ℕ → ℕ → ℕ → Description
@@ -70,3 +71,48 @@ module _ (s : List ℕ) (at f : ℕ) (h : zero < f) where
 
     pub split-track : n ≤ length s - at - 4 → split f (drop at s) ≡ after (trackAt s at n) (split (f - 1) (drop (at + 4 + n) s))
     split-track k = split-four ∙ rw (le-leb n (length s - (at + 4)) (omega arith))
+
+-- the tracks of a section take no more bytes than it has
+split-size : (f : ℕ) (s : List ℕ) → sizeOf (split f s .list) ≤ length s
+unfolding split sizeOf
+split-size zero s = omega arith
+split-size (suc f) [] = omega arith
+split-size (suc f) (k ∷ []) = omega arith
+split-size (suc f) (k ∷ i ∷ []) = omega arith
+split-size (suc f) (k ∷ i ∷ h ∷ []) = omega arith
+split-size (suc f) (k ∷ i ∷ h ∷ l ∷ s) = go (leb (h * 256 + l) (length s)) refl (split-size f (drop (h * 256 + l) s))
+  where
+    go : (b : Bool) → leb (h * 256 + l) (length s) ≡ b → sizeOf (split f (drop (h * 256 + l) s) .list) ≤ length (drop (h * 256 + l) s)
+        → sizeOf (pick b (after (record { kind = k; id = i; items = take (h * 256 + l) s }) (split f (drop (h * 256 + l) s))) (none (hangs k i)) .list)
+        ≤ length (k ∷ i ∷ h ∷ l ∷ s)
+    go true q r = omega (arith, length-take-le (h * 256 + l) s (leb-true _ _ q), length-drop (h * 256 + l) s, leb-true)
+    go false q r = omega arith
+
+pub section-size : (s : List ℕ) → sizeOf (tracksOf s .list) ≤ length s
+unfolding tracksOf
+section-size s = split-size (suc (length s)) s
+
+-- tracks put together come apart as they were, where each one's items are under 65,536 bytes
+abbrev pub Sized : List Description → Type 0
+Sized [] = Unit {0}
+Sized (d ∷ ds) = (length (d .items) < 65536) × Sized ds
+
+two-bytes : (v : ℕ) (s : List ℕ) → beBytes 2 v ++ s ≡ v / 256 % 256 ∷ v % 256 ∷ s
+unfolding beBytes
+two-bytes v s = refl
+
+split-bytes : (ds : List Description) → Sized ds → (f : ℕ) → length (bytesOf ds) < f → split f (bytesOf ds) ≡ record { list = ds; end = over }
+unfolding split bytesOf
+split-bytes ds z zero h = absurd (omega arith)
+split-bytes [] z (suc f) h = refl
+split-bytes (d ∷ ds) z (suc f) h =
+    let v = d .items in
+    let n = length v in
+    let r = bytesOf ds in
+    let e : n / 256 % 256 * 256 + n % 256 ≡ n = omega (arith, z .0) in
+    let k : length r < f = omega (arith, length-append (beBytes 2 n) (v ++ r), length-append v r) in
+    rw (two-bytes n (v ++ r), e, le-leb n (length (v ++ r)) (simp length-append (omega arith)), take-append-seam v r, drop-append-seam v r, split-bytes ds (z .1) f k)
+
+pub section-bytes : (ds : List Description) → Sized ds → tracksOf (bytesOf ds) ≡ record { list = ds; end = over }
+unfolding tracksOf
+section-bytes ds z = split-bytes ds z (suc (length (bytesOf ds))) (omega arith)

@@ -1,10 +1,11 @@
 -- The track section (RDD 14, 7.1.3; 01, "Map"): taken apart by lengths alone, judged in walk order, and its listed tracks.
 use Prim.Native.Nat.{ℕ, zero, suc, _+_, _-_, _*_}
 use mathlib.Core.Bool.{Bool}
-use mathlib.Core.List.{List, [], _∷_}
+use mathlib.Core.List.{List, [], _∷_, _++_}
 use lib.ListN.{length, take, drop, set}
-use lib.Dec.{ltb, leb}
+use lib.Dec.{ltb, leb, eqb}
 use Rattle.plate.specs.Choice.{pick}
+use Rattle.number.specs.Number.{beBytes}
 use Rattle.media_type.specs.MediaType.{knownType}
 use Rattle.items.specs.Items.{sectionOf}
 use Rattle.items.specs.Judge.{bad, andThen, has, verdictOf}
@@ -53,6 +54,16 @@ split (suc f) (k ∷ i ∷ h ∷ l ∷ s) =
 
 unfoldable pub tracksOf : List ℕ → Descriptions
 tracksOf s = split (suc (length s)) s
+
+-- the bytes that some tracks take
+unfoldable pub sizeOf : List Description → ℕ
+sizeOf [] = 0
+sizeOf (d ∷ ds) = 4 + length (d .items) + sizeOf ds
+
+-- the bytes that some tracks are
+unfoldable pub bytesOf : List Description → List ℕ
+bytesOf [] = []
+bytesOf (d ∷ ds) = d .kind ∷ d .id ∷ (beBytes 2 (length (d .items)) ++ (d .items ++ bytesOf ds))
 
 -- 12: a type byte under 80 or an ID byte under C0
 abbrev pub onBytes : ℕ → ℕ → ℕ → Verdict → Verdict
@@ -107,6 +118,11 @@ unfoldable pub kthOf : ℕ → List Placed → Kth
 kthOf k [] = Nothing
 kthOf zero (x ∷ xs) = Record (recordOf x)
 kthOf (suc k) (x ∷ xs) = kthOf k xs
+
+-- the record of the listed track of an ID
+unfoldable pub idOf : ℕ → List Placed → Kth
+idOf id [] = Nothing
+idOf id (x ∷ xs) = pick (eqb (x .track .id - 0xC0) id) (Record (recordOf x)) (idOf id xs)
 
 -- by ID, the media type under which a track is listed, and 0 where none is
 unfoldable pub typesOf : List ℕ → List Description → List ℕ

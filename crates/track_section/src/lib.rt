@@ -10,7 +10,7 @@ ghost use lib.ListN.{length, set, replicate};
 ghost use Rattle.plate.specs.Choice.{pick};
 ghost use Rattle.media_type.specs.MediaType.{knownType};
 ghost use Rattle.track_section.specs.Seen.{holds, Empty, Adds};
-ghost use Rattle.track_section.specs.Tracks.{trackVerdict, tracksOf, tracksVerdict, listed, kthOf, typesOf};
+ghost use Rattle.track_section.specs.Tracks.{trackVerdict, tracksOf, tracksVerdict, listed, kthOf, idOf, typesOf};
 
 // The track IDs seen so far.
 pub struct Seen {
@@ -176,6 +176,34 @@ pub fn kth_record(s: &[u8], base: usize, k: usize) -> Kth
                 return Kth::Record(answer::record(kind, s[at + 1], &s[a..e], base + a));
             }
             before -= 1;
+        }
+        at = e;
+    }
+    Kth::Nothing
+}
+
+// The record of the listed track of an ID, of a section that begins at place base of its packet.
+pub fn record_of_id(s: &[u8], base: usize, id: usize) -> Kth
+    requires { ⌜ base + length (now s) < 2 ^ 64 ⌝ }
+    ensures { λ r. ⌜ r ≡ idOf id (listed base (tracksOf (now (s .entry)) .list)) ⌝ }
+{
+    let mut at: usize = 0;
+    while at < s.len() {
+        let left = s.len() - at;
+        if left < 4 {
+            return Kth::Nothing;
+        }
+        let n = number::be_at(s, at + 2, 2);
+        if left - 4 < n {
+            return Kth::Nothing;
+        }
+        let a = at + 4;
+        let e = a + n;
+        if is_listed(s[at]) {
+            let found = number::wide(answer::bare(s[at + 1], 0xC0));
+            if found == id {
+                return Kth::Record(answer::record(s[at], s[at + 1], &s[a..e], base + a));
+            }
         }
         at = e;
     }

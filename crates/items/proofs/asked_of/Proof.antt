@@ -1,13 +1,6 @@
 use borrow.Author.Needs.{needs}
 use Rattle.items.proofs.asked_of.Statement.{statement}
 use Rattle.items.proofs.asked_of.Tie as tie
-use Rattle.items.proofs.asked_of.Reads as reads
-use Rattle.items.proofs.asked_of.Lts as lts
-use Rattle.items.proofs.material_form.Reads as material-form-reads
-use Rattle.items.proofs.track_form.Reads as track-form-reads
-use borrow.Author.Needs.{needs}
-use native.Mathlib.Omega.{arith}
-use mathlib.Core.Path.{sym, _∙_}
 
 enum-told : tie.Need-enum-told
 enum-told c = search needs

@@ -1,9 +1,5 @@
 use Rattle.items.proofs.counts_as.Statement.{statement}
 use Rattle.items.proofs.counts_as.Tie as tie
-use Rattle.items.proofs.counts_as.Reads as reads
-use Rattle.items.proofs.counts_as.Lts as lts
-use borrow.Author.Needs.{needs}
-use native.Mathlib.Omega.{arith}
 use Rattle.plate.proofs.Tests.{tests}
 use Rattle.items.specs.Judge.{countsAs}
 

@@ -1,11 +1,6 @@
 use borrow.Author.Needs.{needs}
 use Rattle.items.proofs.fault.Statement.{statement}
 use Rattle.items.proofs.fault.Tie as tie
-use Rattle.items.proofs.fault.Reads as reads
-use Rattle.items.proofs.fault.Lts as lts
-use Rattle.text.proofs.is_text.Reads as is-text-reads
-use borrow.Author.Needs.{needs}
-use native.Mathlib.Omega.{arith}
 use mathlib.Core.Path.{sym, _∙_}
 use borrow.Author.Tests.{eq-eqb, ne-eqb}
 use Rattle.items.specs.Judge.{faultOf}

@@ -1,8 +1,5 @@
 use Rattle.items.proofs.found.Statement.{statement}
 use Rattle.items.proofs.found.Tie as tie
-use Rattle.items.proofs.found.Reads as reads
-use Rattle.items.proofs.found.Lts as lts
-use Rattle.number.proofs.wide.Reads as wide-reads
 use borrow.Author.Needs.{needs}
 use native.Mathlib.Omega.{arith}
 use Prim.Native.Nat.{_≤_, _-_}

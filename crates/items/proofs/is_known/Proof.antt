@@ -1,10 +1,6 @@
 use borrow.Author.Needs.{needs}
 use Rattle.items.proofs.is_known.Statement.{statement}
 use Rattle.items.proofs.is_known.Tie as tie
-use Rattle.items.proofs.is_known.Reads as reads
-use Rattle.items.proofs.is_known.Lts as lts
-use borrow.Author.Needs.{needs}
-use native.Mathlib.Omega.{arith}
 use Rattle.items.specs.Judge.{isKnown}
 
 enum-told : tie.Need-enum-told

@@ -1,13 +1,5 @@
 use Rattle.items.proofs.judge.Statement.{statement}
 use Rattle.items.proofs.judge.Tie as tie
-use Rattle.items.proofs.judge.Reads as reads
-use Rattle.items.proofs.judge.Lts as lts
-use Rattle.items.proofs.asked_of.Reads as asked-of-reads
-use Rattle.items.proofs.counts_as.Reads as counts-as-reads
-use Rattle.items.proofs.fault.Reads as fault-reads
-use Rattle.items.proofs.is_known.Reads as is-known-reads
-use Rattle.items.proofs.refused.Reads as refused-reads
-use Rattle.number.proofs.wide.Reads as wide-reads
 use borrow.Author.Needs.{needs}
 use native.Mathlib.Omega.{arith}
 use Prim.Native.Nat.{_≤_, _-_}

@@ -1,9 +1,5 @@
 use Rattle.items.proofs.track_form.Statement.{statement}
 use Rattle.items.proofs.track_form.Tie as tie
-use Rattle.items.proofs.track_form.Reads as reads
-use Rattle.items.proofs.track_form.Lts as lts
-use borrow.Author.Needs.{needs}
-use native.Mathlib.Omega.{arith}
 use Rattle.plate.proofs.Tests.{tests}
 use Rattle.items.specs.Judge.{formOf}
 

@@ -1,0 +1,50 @@
+-- A map packet put together (RDD 14, 7.1; 01, "Map"): true lengths, and the fewest zeros as padding.
+use Prim.Native.Nat.{ℕ, _+_, _-_, _%_}
+use mathlib.Core.List.{List, [], _∷_, _++_, map}
+use lib.ListN.{length, replicate}
+use Rattle.number.specs.Number.{beBytes}
+use Rattle.items.specs.Items.{Item, bytesOf}
+use Rattle.track_section.specs.Tracks as tracks
+use Rattle.track_section.specs.Tracks.{Description}
+
+-- a track's type byte, ID byte and items
+pub record TrackParts : Type 0 where
+  pub kind : ℕ
+  pub id : ℕ
+  pub items : List Item
+
+-- a map: the four reserved bytes of its header, the reserved byte of its payload, the material items and the tracks
+pub record MapParts : Type 0 where
+  pub spare : List ℕ
+  pub second : ℕ
+  pub material : List Item
+  pub tracks : List TrackParts
+
+-- a track as its bytes are described
+unfoldable pub described : TrackParts → Description
+described t = record { kind = t .kind; id = t .id; items = bytesOf (t .items) }
+
+-- the fewest zeros that make a multiple of 4
+unfoldable pub padding : ℕ → ℕ
+padding n = (4 - n % 4) % 4
+
+-- the two sections, each behind its 16-bit length
+unfoldable pub sectionBytes : List ℕ → List ℕ → List ℕ
+sectionBytes m t = beBytes 2 (length m) ++ (m ++ (beBytes 2 (length t) ++ t))
+
+-- header and preamble take 18 bytes
+unfoldable pub packetLength : List ℕ → List ℕ → ℕ
+packetLength m t = 22 + length m + length t + padding (22 + length m + length t)
+
+-- leader, type BC, length, reserved, trailer; version E0 and the reserved byte
+unfoldable pub front : ℕ → List ℕ → ℕ → List ℕ
+front len spare second = 0 ∷ 0 ∷ 0 ∷ 0 ∷ 1 ∷ 0xBC ∷ (beBytes 4 len ++ (spare ++ (0xE1 ∷ 0xE2 ∷ 0xE0 ∷ second ∷ [])))
+
+-- a packet of two sections' bytes
+unfoldable pub packetOf : List ℕ → ℕ → List ℕ → List ℕ → List ℕ
+packetOf spare second m t =
+    front (packetLength m t) spare second ++ (sectionBytes m t ++ replicate (padding (22 + length m + length t)) 0)
+
+-- a packet of items and tracks
+unfoldable pub encode : MapParts → List ℕ
+encode p = packetOf (p .spare) (p .second) (bytesOf (p .material)) (tracks.bytesOf (map described (p .tracks)))
