@@ -1,0 +1,50 @@
+-- Runs from a place on: at the end, at one of another kind, at one of the kind; and where they end.
+use Prim.Native.Nat.{ℕ, suc, _+_, _<_, _≤_}
+use mathlib.Core.Path.{_≡_, refl}
+use mathlib.Core.List.{List, [], _∷_}
+use mathlib.Core.Bool.{Bool, true, false}
+use native.Mathlib.Omega.{arith}
+use native.Mathlib.Numerals.{add-one}
+use native.Mathlib.Nat.{add-zero}
+use lib.ListN.{length, getD, drop, drop-of-length-le, length-drop}
+use lib.Seq.{drop-cons}
+use Rattle.plate.specs.Choice.{pick}
+use Rattle.scan.specs.Scan.{run, runEnd}
+
+pub run-most : {A : Type 0} (p : A → Bool) (s : List A) → run p s ≤ length s
+unfolding run
+run-most p [] = omega arith
+run-most p (x ∷ s) = go (p x) (run-most p s)
+  where
+    go : (b : Bool) → run p s ≤ length s → pick b (suc (run p s)) 0 ≤ suc (length s)
+    go true h = omega arith
+    go false h = omega arith
+
+module _ {A : Type 0} (p : A → Bool) (s : List A) (at : ℕ) where
+  pub run-out : length s ≤ at → at ≡ runEnd p s at
+  unfolding runEnd run
+  run-out h = rw (drop-of-length-le s h, add-zero)
+
+  pub run-stop : (d : A) → at < length s → p (getD s at d) ≡ false → at ≡ runEnd p s at
+  unfolding runEnd run
+  run-stop d h e = rw (drop-cons s at d h) (simp (e, add-zero))
+
+  pub run-go : (d : A) → at < length s → p (getD s at d) ≡ true → runEnd p s at ≡ runEnd p s (at + 1)
+  unfolding runEnd run
+  run-go d h e = rw (drop-cons s at d h, add-one) (simp e (omega arith))
+
+  pub run-from : at ≤ runEnd p s at
+  unfolding runEnd
+  run-from = omega arith
+
+  pub run-within : at ≤ length s → runEnd p s at ≤ length s
+  unfolding runEnd
+  run-within h = let k = run-most p (drop at s) in let e = length-drop at s in omega arith
+
+  -- a run that is not empty begins with one of its kind
+  pub run-first : (d : A) → at < length s → at < runEnd p s at → p (getD s at d) ≡ true
+  run-first d h k = go (p (getD s at d)) refl
+    where
+      go : (b : Bool) → p (getD s at d) ≡ b → b ≡ true
+      go true e = refl
+      go false e = absurd (let z = run-stop d h e in omega arith)
