@@ -1,11 +1,11 @@
 -- Runs from a place on: at the end, at one of another kind, at one of the kind; and where they end.
-use Prim.Native.Nat.{ℕ, suc, _+_, _<_, _≤_}
+use Prim.Native.Nat.{ℕ, zero, suc, _+_, _<_, _≤_}
 use mathlib.Core.Path.{_≡_, refl}
 use mathlib.Core.List.{List, [], _∷_}
 use mathlib.Core.Bool.{Bool, true, false}
 use native.Mathlib.Omega.{arith}
 use native.Mathlib.Numerals.{add-one}
-use native.Mathlib.Nat.{add-zero}
+use native.Mathlib.Nat.{add-zero, zero-add}
 use lib.ListN.{length, getD, drop, drop-of-length-le, length-drop}
 use lib.Seq.{drop-cons}
 use Rattle.plate.specs.Choice.{pick}
@@ -48,3 +48,19 @@ module _ {A : Type 0} (p : A → Bool) (s : List A) (at : ℕ) where
       go : (b : Bool) → p (getD s at d) ≡ b → b ≡ true
       go true e = refl
       go false e = absurd (let z = run-stop d h e in omega arith)
+
+pub run-start : {A : Type 0} (p : A → Bool) (s : List A) → run p s ≡ runEnd p s 0
+unfolding runEnd
+run-start p s = rw zero-add
+
+-- a run as long as the list: all are of the kind
+pub run-all : {A : Type 0} (p : A → Bool) (s : List A) (k : ℕ) (d : A) → run p s ≡ length s → k < length s → p (getD s k d) ≡ true
+unfolding run
+run-all p [] k d e h = absurd (omega arith)
+run-all p (x ∷ s) k d e h = go (p x) refl e (λ j f l. run-all p s j d f l) k h
+  where
+    go : (b : Bool) → p x ≡ b → pick b (suc (run p s)) 0 ≡ suc (length s) → ((j : ℕ) → run p s ≡ length s → j < length s → p (getD s j d) ≡ true)
+        → (k : ℕ) → k < suc (length s) → p (getD (x ∷ s) k d) ≡ true
+    go true q f r zero l = q
+    go true q f r (suc j) l = r j (omega arith) (omega arith)
+    go false q f r j l = absurd (omega arith)

@@ -1,0 +1,4 @@
+pub mod Judging
+pub mod Laws
+pub mod Rows
+pub mod Turns

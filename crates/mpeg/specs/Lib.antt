@@ -1,0 +1,4 @@
+pub mod Lines
+pub mod Parameters
+pub mod Read
+pub mod Table
