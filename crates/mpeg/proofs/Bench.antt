@@ -9,11 +9,11 @@ use Rattle.text.specs.Text.{textOk}
 use Rattle.scan.specs.Scan.{run, runEnd, alnum, other}
 use Rattle.decimal.specs.Decimal.{digits, numeralOf, fractionOf, wholeOf, rateOf}
 use Rattle.decimal.specs.declared.Amount.the-variants.{Of}
-use Rattle.mpeg.specs.Table.{table, rowAt, otherRow, rowOf}
-use Rattle.mpeg.specs.Parameters.{amountOf, given, numberOf, millionths, valueOf, lacking, parametersOf}
+use Rattle.parameter.specs.Table.{table, rowAt, otherRow, rowFor, rowOf}
+use Rattle.parameter.specs.Parameters.{amountOf, given, numberOf, millionths, valueOf, lacking, parametersOf}
 use Rattle.mpeg.specs.Lines.{labelAt, linesFrom, linesAt}
 use Rattle.mpeg.specs.Read.{taken, judge, answerOf, readOf}
-use Rattle.mpeg.specs.declared.ParameterValue.the-variants.{Whole, Rate}
+use Rattle.parameter.specs.declared.ParameterValue.the-variants.{Whole, Rate}
 use Rattle.mpeg.specs.declared.MpegAnswer.the-variants.{Given}
 
 pub half : rateOf (0x30 ∷ 0x2E ∷ 0x35 ∷ []) ≡ Of 500000
@@ -59,5 +59,5 @@ pub whole-text : readOf text
       cbpg = Whole 0;
       ar = Whole 0;
     })
-unfolding readOf textOk judge taken answerOf linesAt linesFrom labelAt lacking parametersOf valueOf numberOf given amountOf table rowAt otherRow rowOf rateOf wholeOf numeralOf fractionOf digits run runEnd alnum other be
+unfolding readOf textOk judge taken answerOf linesAt linesFrom labelAt lacking parametersOf valueOf numberOf given amountOf table rowAt otherRow rowFor rowOf rateOf wholeOf numeralOf fractionOf digits run runEnd alnum other be
 whole-text = refl

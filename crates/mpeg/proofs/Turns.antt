@@ -11,12 +11,11 @@ use lib.Seq.{getD-take, getD-drop}
 use lib.Dec.{ltb, eqb}
 use Rattle.plate.specs.Choice.{pick}
 use Rattle.scan.specs.Scan.{alnum, other}
-use Rattle.scan.proofs.Laws.{run-first, run-from}
-use Rattle.mpeg.specs.Table.{rowOf}
+use Rattle.scan.proofs.Laws.{run-first, run-from, past}
+use Rattle.parameter.specs.Table.{rowOf}
 use Rattle.mpeg.specs.Lines.{Lines, done, part, nameEnd, valueEnd, labelAt, labelThen, linesFrom, linesAt}
 use Rattle.mpeg.specs.declared.Label.{Label}
 use Rattle.mpeg.specs.declared.Label.the-variants.{Names, Broken}
-use Rattle.mpeg.proofs.Laws.{past}
 
 alnum-some : (b : ℕ) → alnum b ≡ true → 0 < b
 unfolding alnum
@@ -37,7 +36,7 @@ module _ (s : List ℕ) (at : ℕ) where
       go : (b : Bool) → ltb at (length s) ≡ b → eqb (getD s at 0) 0x20 ≡ true → at < length s
       go true q e = ltb-true at (length s) q
       go false q e =
-          let p = past s at (ltb-false at (length s) q) in
+          let p = past s at 0 (ltb-false at (length s) q) in
           let w : eqb 0 0x20 ≡ true = rw p at e in
           absurd (let z : _≡_ {A = ℕ} 0 1 = cc in omega arith)
 

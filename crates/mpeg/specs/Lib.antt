@@ -1,4 +1,2 @@
 pub mod Lines
-pub mod Parameters
 pub mod Read
-pub mod Table

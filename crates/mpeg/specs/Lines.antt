@@ -5,7 +5,7 @@ use lib.ListN.{length, getD, take, drop}
 use lib.Dec.{ltb, eqb}
 use Rattle.plate.specs.Choice.{pick}
 use Rattle.scan.specs.Scan.{runEnd, alnum, other}
-use Rattle.mpeg.specs.Table.{rowOf}
+use Rattle.parameter.specs.Table.{rowOf}
 use Rattle.mpeg.specs.declared.Label.{Label}
 use Rattle.mpeg.specs.declared.Label.the-variants.{Names, Broken}
 

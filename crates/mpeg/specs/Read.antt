@@ -9,8 +9,8 @@ use Rattle.plate.specs.Plate.{refusal}
 use Rattle.text.specs.Text.{textOk}
 use Rattle.decimal.specs.declared.Amount.{Amount}
 use Rattle.decimal.specs.declared.Amount.the-variants.{Of, Malformed}
-use Rattle.mpeg.specs.Table.{rowAt}
-use Rattle.mpeg.specs.Parameters.{amountOf, lacking, parametersOf}
+use Rattle.parameter.specs.Table.{rowAt}
+use Rattle.parameter.specs.Parameters.{amountOf, lacking, parametersOf}
 use Rattle.mpeg.specs.Lines.{Lines, done, malformed, line, linesAt}
 use Rattle.mpeg.specs.declared.Verdict.{Verdict}
 use Rattle.mpeg.specs.declared.Verdict.the-variants.{Fine, Bad}

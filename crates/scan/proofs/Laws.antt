@@ -64,3 +64,10 @@ run-all p (x ∷ s) k d e h = go (p x) refl e (λ j f l. run-all p s j d f l) k 
     go true q f r zero l = q
     go true q f r (suc j) l = r j (omega arith) (omega arith)
     go false q f r j l = absurd (omega arith)
+
+-- past the end stands what is asked for there
+pub past : {A : Type 0} (s : List A) (i : ℕ) (d : A) → length s ≤ i → getD s i d ≡ d
+past [] zero d h = refl
+past [] (suc i) d h = refl
+past (x ∷ s) zero d h = absurd (omega arith)
+past (x ∷ s) (suc i) d h = past s i d (omega arith)

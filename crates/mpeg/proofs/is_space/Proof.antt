@@ -1,7 +1,8 @@
 use borrow.Author.Needs.{needs}
 use Rattle.mpeg.proofs.is_space.Statement.{statement}
 use Rattle.mpeg.proofs.is_space.Tie as tie
-use Rattle.mpeg.proofs.Laws.{past}
+use Prim.Native.Nat.{ℕ}
+use Rattle.scan.proofs.Laws.{past}
 
 shared-slice-read-result : tie.Need-shared-slice-read-result
 shared-slice-read-result c = search needs
@@ -10,7 +11,7 @@ returns : tie.Need-returns
 returns c = search needs
 
 returns-2 : tie.Need-returns-2
-returns-2 c = rw (past _ _ (c .if1 .left))
+returns-2 c = rw (past {A = ℕ} _ _ 0 (c .if1 .left))
 
 pub is-space-spec : {M : Type 1} → statement M
 is-space-spec = tie.close (tie.spec shared-slice-read-result returns returns-2)

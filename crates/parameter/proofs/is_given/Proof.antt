@@ -1,10 +1,10 @@
 use borrow.Author.Needs.{needs}
-use Rattle.mpeg.proofs.is_given.Statement.{statement}
-use Rattle.mpeg.proofs.is_given.Tie as tie
+use Rattle.parameter.proofs.is_given.Statement.{statement}
+use Rattle.parameter.proofs.is_given.Tie as tie
 use native.Mathlib.Omega.{arith}
 use mathlib.Core.Path.{sym}
 use borrow.Author.Tests.{lt-ltb, le-ltb, le-leb, lt-leb}
-use Rattle.mpeg.specs.Parameters.{given}
+use Rattle.parameter.specs.Parameters.{given}
 
 row-at-requires : tie.Need-row-at-requires
 row-at-requires c κs = search needs

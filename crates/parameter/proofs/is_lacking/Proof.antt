@@ -1,11 +1,11 @@
-use Rattle.mpeg.proofs.is_lacking.Statement.{statement}
-use Rattle.mpeg.proofs.is_lacking.Tie as tie
+use Rattle.parameter.proofs.is_lacking.Statement.{statement}
+use Rattle.parameter.proofs.is_lacking.Tie as tie
 use borrow.Author.Needs.{needs}
 use native.Mathlib.Omega.{arith}
 use Prim.Native.Nat.{_≤_}
 use mathlib.Core.Path.{_≡_, sym, _∙_}
-use Rattle.mpeg.specs.Parameters.{lacking}
-use Rattle.mpeg.proofs.Laws.{lacking-turn}
+use Rattle.parameter.specs.Parameters.{lacking}
+use Rattle.parameter.proofs.Laws.{lacking-turn}
 
 abbrev Inv-loop : tie.InvT-loop
 Inv-loop slots k₀ k = (k ≤ 14) × (lacking slots 14 ≡ lacking slots k)

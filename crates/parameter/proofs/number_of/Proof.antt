@@ -1,10 +1,10 @@
 use borrow.Author.Needs.{needs}
-use Rattle.mpeg.proofs.number_of.Statement.{statement}
-use Rattle.mpeg.proofs.number_of.Tie as tie
+use Rattle.parameter.proofs.number_of.Statement.{statement}
+use Rattle.parameter.proofs.number_of.Tie as tie
 use native.Mathlib.Omega.{arith}
 use mathlib.Core.Path.{sym, _∙_}
-use Rattle.mpeg.specs.Parameters.{numberOf}
-use Rattle.mpeg.proofs.Laws.{given-some}
+use Rattle.parameter.specs.Parameters.{numberOf}
+use Rattle.parameter.proofs.Laws.{given-some}
 
 is-given-requires : tie.Need-is-given-requires
 is-given-requires c κs = search needs

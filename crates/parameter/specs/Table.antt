@@ -7,7 +7,7 @@ use lib.Dec.{eqb}
 use Rattle.plate.specs.Choice.{pick}
 use Rattle.number.specs.Number.{be}
 use Rattle.scan.specs.Scan.{run}
-use Rattle.mpeg.specs.declared.Row.{Row}
+use Rattle.parameter.specs.declared.Row.{Row}
 
 -- an identifier is given as the number that its bytes are, most significant first: no byte of an identifier is 0, so the number tells the bytes
 abbrev pub name : Row → ℕ
@@ -78,5 +78,8 @@ unfoldable pub otherRow : ℕ → Row → Bool
 otherRow id r = pick (eqb (name r) id) false true
 
 -- the row of an identifier; 14 where it is unknown
+unfoldable pub rowFor : ℕ → ℕ
+rowFor id = run (otherRow id) table
+
 unfoldable pub rowOf : List ℕ → ℕ
-rowOf v = run (otherRow (be v 0 (length v))) table
+rowOf v = rowFor (be v 0 (length v))

@@ -5,15 +5,15 @@ use mathlib.Core.Bool.{Bool, true, false}
 use mathlib.Core.List.{List, [], _∷_}
 use native.Mathlib.Omega.{arith}
 use native.Mathlib.Nat.{pow-succ', pow-le-pow-right}
-use borrow.Author.Tests.{ltb-true, leb-true, ne-eqb}
+use borrow.Author.Tests.{ltb-true, ltb-false, leb-true, ne-eqb}
 use lib.ListN.{length, getD}
 use lib.Dec.{ltb, leb, eqb}
 use Rattle.plate.specs.Choice.{pick}
 use Rattle.number.specs.Number.{be}
 use Rattle.scan.specs.Scan.{run}
-use Rattle.scan.proofs.Laws.{run-all}
-use Rattle.mpeg.specs.Table.{table, name, rate, most, whole, rowAt, otherRow, rowOf}
-use Rattle.mpeg.specs.declared.Row.{Row}
+use Rattle.scan.proofs.Laws.{run-all, past}
+use Rattle.parameter.specs.Table.{table, name, rate, most, whole, rowAt, otherRow, rowFor, rowOf}
+use Rattle.parameter.specs.declared.Row.{Row}
 
 pub rows : length table ≡ 14
 unfolding table
@@ -27,10 +27,19 @@ all-fit : run fits table ≡ 14
 unfolding run fits table
 all-fit = refl
 
-module _ (k : ℕ) (h : k < 14) where
+-- past the table stands a row that is nobody's
+pub row-past : (k : ℕ) → 14 ≤ k → rowAt k ≡ whole 0 false 0 0
+unfolding rowAt
+row-past k h = past table k (whole 0 false 0 0) (rw rows h)
+
+module _ (k : ℕ) where
   fit : fits (rowAt k) ≡ true
-  unfolding rowAt
-  fit = run-all fits table k (whole 0 false 0 0) (all-fit ∙ sym rows) (rw rows h)
+  unfolding rowAt fits
+  fit = go (ltb k 14) refl
+    where
+      go : (b : Bool) → ltb k 14 ≡ b → fits (rowAt k) ≡ true
+      go true q = run-all fits table k (whole 0 false 0 0) (all-fit ∙ sym rows) (rw rows (ltb-true k 14 q))
+      go false q = rw (row-past k (ltb-false k 14 q))
 
   pub rate-exact : rate (rowAt k) ≡ true → most (rowAt k) ≤ 2 ^ 53
   unfolding fits
@@ -67,7 +76,7 @@ be-least s zero h = omega arith
 be-least s (suc n) h = rw pow-succ' (omega (arith, be-least s n h))
 
 pub long : (v : List ℕ) → 0 < getD v 0 0 → 5 < length v → 14 ≡ rowOf v
-unfolding rowOf
+unfolding rowOf rowFor
 long v h l = sym (none-of (be v 0 (length v)) (go (length v) l) table (all-short ∙ sym rows) ∙ rows)
   where
     go : (n : ℕ) → 5 < n → 256 ^ 5 ≤ be v 0 n

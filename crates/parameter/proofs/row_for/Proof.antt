@@ -1,23 +1,24 @@
-use Rattle.mpeg.proofs.row_for.Statement.{statement}
-use Rattle.mpeg.proofs.row_for.Tie as tie
+use Rattle.parameter.proofs.row_for.Statement.{statement}
+use Rattle.parameter.proofs.row_for.Tie as tie
 use borrow.Author.Needs.{needs}
 use native.Mathlib.Omega.{arith}
 use mathlib.Core.Bool.{false}
 use Prim.Native.Nat.{_≤_, _-_}
 use mathlib.Core.Path.{_≡_, sym, _∙_}
 use borrow.Author.Tests.{eq-eqb, ne-eqb}
-use Rattle.scan.specs.Scan.{run, runEnd}
+use Rattle.scan.specs.Scan.{runEnd}
 use Rattle.scan.proofs.Laws.{run-out, run-stop, run-go, run-start}
-use Rattle.mpeg.specs.Table.{table, rowAt, otherRow, whole}
-use Rattle.mpeg.proofs.Rows.{rows}
+use Rattle.parameter.specs.Table.{table, rowAt, rowFor, otherRow, whole}
+use Rattle.parameter.proofs.Rows.{rows}
 
 abbrev Inv-loop : tie.InvT-loop
-Inv-loop name k₀ k = (k ≤ 14) × (run (otherRow name) table ≡ runEnd (otherRow name) table k)
+Inv-loop name k₀ k = (k ≤ 14) × (rowFor name ≡ runEnd (otherRow name) table k)
 
 abbrev μ-loop : tie.MeasureT-loop
 μ-loop name k₀ k = 14 - k
 
 loop-holds : tie.Need-loop-holds Inv-loop μ-loop
+unfolding rowFor
 loop-holds c = (omega arith, run-start _ _)
 
 row-at-requires : tie.Need-row-at-requires Inv-loop μ-loop

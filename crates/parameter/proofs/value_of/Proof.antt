@@ -1,6 +1,6 @@
 use borrow.Author.Needs.{needs}
-use Rattle.mpeg.proofs.value_of.Statement.{statement}
-use Rattle.mpeg.proofs.value_of.Tie as tie
+use Rattle.parameter.proofs.value_of.Statement.{statement}
+use Rattle.parameter.proofs.value_of.Tie as tie
 use native.Mathlib.Omega.{arith}
 use Prim.Native.Nat.{_≤_, _^_}
 use mathlib.Core.Path.{_≡_, refl, sym}
@@ -8,10 +8,10 @@ use borrow.Author.Tests.{le-leb}
 use lib.Ieee as Ieee
 use lib.Ieee.{binary64}
 use lib.IntN.{pos}
-use Rattle.mpeg.specs.Parameters.{valueOf, numberOf, millionths}
-use Rattle.mpeg.specs.Table.{rowAt}
-use Rattle.mpeg.proofs.Laws.{number-most}
-use Rattle.mpeg.proofs.Rows.{rate-exact, whole-fits}
+use Rattle.parameter.specs.Parameters.{valueOf, numberOf, millionths}
+use Rattle.parameter.specs.Table.{rowAt}
+use Rattle.parameter.proofs.Laws.{number-most}
+use Rattle.parameter.proofs.Rows.{rate-exact, whole-fits}
 
 -- the divisor's bits
 million : Ieee.ofInt binary64 (pos 1000000) ≡ Ieee.ofBits binary64 0x412E848000000000
@@ -30,7 +30,7 @@ int-to-float-x c =
     let a = c .before .before .before .before .args in
     let n : c .before .before .before .number-of .result ≡ numberOf (rowAt (a .k)) (a .slot) = c .before .before .before .number-of .ensures in
     let m = number-most (rowAt (a .k)) (a .slot) in
-    let e = rate-exact (a .k) (c .before .before .before .before .pre) (rw (c .before .before .row-at .ensures) at (c .before .if1 .taken)) in
+    let e = rate-exact (a .k) (rw (c .before .before .row-at .ensures) at (c .before .if1 .taken)) in
     let h : c .before .before .before .number-of .result ≤ 2 ^ 53 = omega arith in
     rw (le-leb _ _ h) tt
 
@@ -43,7 +43,7 @@ cast-t9 c =
     let a = c .before .before .before .args in
     let n : c .before .before .number-of .result ≡ numberOf (rowAt (a .k)) (a .slot) = c .before .before .number-of .ensures in
     let m = number-most (rowAt (a .k)) (a .slot) in
-    let e = whole-fits (a .k) (c .before .before .before .pre) (rw (c .before .row-at .ensures) at (c .if1 .left)) in
+    let e = whole-fits (a .k) (rw (c .before .row-at .ensures) at (c .if1 .left)) in
     omega arith
 
 returns-2 : tie.Need-returns-2

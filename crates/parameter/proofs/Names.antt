@@ -9,8 +9,8 @@ use borrow.Author.Count.{below-more}
 use lib.ListN.{length, getD}
 use lib.Seq.{ext-getD}
 use Rattle.number.specs.Number.{be}
-use Rattle.mpeg.specs.Table.{table, name}
-use Rattle.mpeg.specs.declared.Row.{Row}
+use Rattle.parameter.specs.Table.{table, name}
+use Rattle.parameter.specs.declared.Row.{Row}
 
 abbrev pub numbered : List ℕ → ℕ
 numbered v = be v 0 (length v)

@@ -1,8 +1,8 @@
 use borrow.Author.Needs.{needs}
-use Rattle.mpeg.proofs.amount.Statement.{statement}
-use Rattle.mpeg.proofs.amount.Tie as tie
+use Rattle.parameter.proofs.amount.Statement.{statement}
+use Rattle.parameter.proofs.amount.Tie as tie
 use mathlib.Core.Path.{sym}
-use Rattle.mpeg.specs.Parameters.{amountOf}
+use Rattle.parameter.specs.Parameters.{amountOf}
 
 row-at-requires : tie.Need-row-at-requires
 row-at-requires c κs = search needs

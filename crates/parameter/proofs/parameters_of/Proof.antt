@@ -1,7 +1,7 @@
 use borrow.Author.Needs.{needs}
-use Rattle.mpeg.proofs.parameters_of.Statement.{statement}
-use Rattle.mpeg.proofs.parameters_of.Tie as tie
-use Rattle.mpeg.specs.Parameters.{parametersOf}
+use Rattle.parameter.proofs.parameters_of.Statement.{statement}
+use Rattle.parameter.proofs.parameters_of.Tie as tie
+use Rattle.parameter.specs.Parameters.{parametersOf}
 
 element-copy-out-value-of : tie.Need-element-copy-out-value-of
 element-copy-out-value-of c = search needs

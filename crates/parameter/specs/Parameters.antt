@@ -12,11 +12,11 @@ use Rattle.plate.specs.Choice.{pick}
 use Rattle.scan.specs.Scan.{within}
 use Rattle.decimal.specs.Decimal.{wholeOf, rateOf}
 use Rattle.decimal.specs.declared.Amount.{Amount}
-use Rattle.mpeg.specs.Table.{rowAt, required, rate, least, most}
-use Rattle.mpeg.specs.declared.Row.{Row}
-use Rattle.mpeg.specs.declared.ParameterValue.{ParameterValue}
-use Rattle.mpeg.specs.declared.ParameterValue.the-variants.{Whole, Rate}
-use Rattle.mpeg.specs.declared.Parameters.{Parameters}
+use Rattle.parameter.specs.Table.{rowAt, required, rate, least, most}
+use Rattle.parameter.specs.declared.Row.{Row}
+use Rattle.parameter.specs.declared.ParameterValue.{ParameterValue}
+use Rattle.parameter.specs.declared.ParameterValue.the-variants.{Whole, Rate}
+use Rattle.parameter.specs.declared.Parameters.{Parameters}
 
 -- a value's number: in millionths where the row is a rate
 unfoldable pub amountOf : Row → List ℕ → Amount
