@@ -6,6 +6,8 @@ import glob, re, sys
 EDGE = r'[\s(){},;]'
 
 def used(name, text):
+    if re.search(r'(?:^|%s)%s(?=$|%s)' % (EDGE, re.escape(name), EDGE), text, re.M):
+        return True
     parts = [p for p in name.split('_') if p]
     return all(re.search(r'(?:^|%s|\.)%s(?=$|%s|\.)' % (EDGE, re.escape(p), EDGE), text, re.M) for p in parts)
 

@@ -1,0 +1,63 @@
+-- The bench reading of Br: 0.5 is 500,000 millionths, and the float is 0.5, whose bits are 3FE0000000000000; alone, and in a text.
+use Prim.Native.Nat.{ℕ}
+use mathlib.Core.Path.{_≡_, refl}
+use mathlib.Core.List.{List, [], _∷_}
+use lib.Ieee as Ieee
+use lib.Ieee.{binary64}
+use Rattle.number.specs.Number.{be}
+use Rattle.text.specs.Text.{textOk}
+use Rattle.scan.specs.Scan.{run, runEnd, alnum, other}
+use Rattle.decimal.specs.Decimal.{digits, numeralOf, fractionOf, wholeOf, rateOf}
+use Rattle.decimal.specs.declared.Amount.the-variants.{Of}
+use Rattle.parameter.specs.Table.{table, rowAt, otherRow, rowFor, rowOf}
+use Rattle.parameter.specs.Parameters.{amountOf, given, numberOf, millionths, valueOf, lacking, parametersOf}
+use Rattle.mpeg.specs.Lines.{labelAt, linesFrom, linesAt}
+use Rattle.mpeg.specs.Read.{taken, judge, answerOf, readOf}
+use Rattle.parameter.specs.declared.ParameterValue.the-variants.{Whole, Rate}
+use Rattle.mpeg.specs.declared.MpegAnswer.the-variants.{Given}
+
+pub half : rateOf (0x30 ∷ 0x2E ∷ 0x35 ∷ []) ≡ Of 500000
+unfolding rateOf numeralOf fractionOf digits run runEnd other
+half = refl
+
+pub half-bits : Ieee.toBits binary64 (millionths 500000) ≡ 0x3FE0000000000000
+unfolding millionths Ieee.toBits Ieee.div Ieee.ofInt Ieee.round
+half-bits = refl
+
+-- every parameter that must be given, and a line that is passed over
+abbrev pub text : List ℕ
+text =
+    0x56 ∷ 0x65 ∷ 0x72 ∷ 0x20 ∷ 0x31 ∷ 0x0A
+    ∷ 0x42 ∷ 0x72 ∷ 0x20 ∷ 0x30 ∷ 0x2E ∷ 0x35 ∷ 0x0A
+    ∷ 0x49 ∷ 0x70 ∷ 0x67 ∷ 0x20 ∷ 0x31 ∷ 0x0A
+    ∷ 0x50 ∷ 0x70 ∷ 0x69 ∷ 0x20 ∷ 0x34 ∷ 0x0A
+    ∷ 0x42 ∷ 0x70 ∷ 0x69 ∷ 0x6F ∷ 0x70 ∷ 0x20 ∷ 0x32 ∷ 0x0A
+    ∷ 0x50 ∷ 0x69 ∷ 0x78 ∷ 0x20 ∷ 0x30 ∷ 0x0A
+    ∷ 0x43 ∷ 0x66 ∷ 0x20 ∷ 0x32 ∷ 0x0A
+    ∷ 0x43 ∷ 0x67 ∷ 0x20 ∷ 0x31 ∷ 0x0A
+    ∷ 0x53 ∷ 0x6C ∷ 0x20 ∷ 0x33 ∷ 0x31 ∷ 0x0A
+    ∷ 0x6E ∷ 0x6C ∷ 0x31 ∷ 0x36 ∷ 0x20 ∷ 0x36 ∷ 0x38 ∷ 0x0A
+    ∷ 0x56 ∷ 0x69 ∷ 0x20 ∷ 0x31 ∷ 0x0A
+    ∷ 0x66 ∷ 0x31 ∷ 0x20 ∷ 0x31 ∷ 0x0A
+    ∷ 0x7A ∷ 0x7A ∷ 0x20 ∷ 0x61 ∷ 0x6E ∷ 0x79 ∷ 0x0A
+    ∷ 0x00 ∷ []
+
+pub whole-text : readOf text
+    ≡ Given (record {
+      ver = Whole 1;
+      br = Rate (millionths 500000);
+      ipg = Whole 1;
+      ppi = Whole 4;
+      bpiop = Whole 2;
+      pix = Whole 0;
+      cf = Whole 2;
+      cg = Whole 1;
+      sl = Whole 31;
+      nl16 = Whole 68;
+      vi = Whole 1;
+      f1 = Whole 1;
+      cbpg = Whole 0;
+      ar = Whole 0;
+    })
+unfolding readOf textOk judge taken answerOf linesAt linesFrom labelAt lacking parametersOf valueOf numberOf given amountOf table rowAt otherRow rowFor rowOf rateOf wholeOf numeralOf fractionOf digits run runEnd alnum other be
+whole-text = refl

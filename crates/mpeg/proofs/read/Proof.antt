@@ -1,0 +1,60 @@
+use borrow.Author.Needs.{needs}
+use Rattle.mpeg.proofs.read.Statement.{statement}
+use Rattle.mpeg.proofs.read.Tie as tie
+use native.Mathlib.Omega.{arith}
+use mathlib.Core.Path.{sym, _∙_}
+use lib.Seq.{length-take-le}
+use Rattle.mpeg.specs.Read.{readOf}
+use Rattle.mpeg.proofs.Laws.{text-some}
+
+is-text-requires : tie.Need-is-text-requires
+is-text-requires c κs = search needs
+
+sub-end : tie.Need-sub-end
+sub-end c = let w = text-some (c .before .before .before .args .v .now) (sym (c .before .is-text .ensures) ∙ c .if1 .taken) in omega arith
+
+slice-aggregate-ident : tie.Need-slice-aggregate-ident
+slice-aggregate-ident c = sym (length-take-le _ _ (omega arith))
+
+ident-requires : tie.Need-ident-requires
+ident-requires c κs = search needs
+
+enum-known-r : tie.Need-enum-known-r
+enum-known-r c = search needs
+
+enum-told : tie.Need-enum-told
+enum-told c = search needs
+
+answer-requires : tie.Need-answer-requires
+answer-requires c κs = search needs
+
+returns : tie.Need-returns
+unfolding readOf
+returns c = simp (sym (c .before .before .before .before .before .before .before .is-text .ensures) ∙ c .before .before .before .before .before .before .if1 .taken, sym (c .before .before .before .ident .ensures .0) ∙ c .before .r .given .1)
+
+returns-2 : tie.Need-returns-2
+unfolding readOf
+returns-2 c = simp (sym (c .before .before .before .before .before .before .before .before .is-text .ensures) ∙ c .before .before .before .before .before .before .before .if1 .taken, sym (c .before .before .before .before .ident .ensures .0) ∙ c .before .before .enum-told .given .1, sym (c .before .before .before .before .ident .ensures .1)) (c .answer .ensures)
+
+refuse-requires : tie.Need-refuse-requires
+refuse-requires c κs = search needs
+
+returns-3 : tie.Need-returns-3
+unfolding readOf
+returns-3 c = simp (sym (c .before .before .is-text .ensures) ∙ c .before .if1 .left, c .refuse .ensures)
+
+pub read-spec : {M : Type 1} → statement M
+read-spec =
+    tie.close
+    (tie.spec
+    is-text-requires
+    sub-end
+    slice-aggregate-ident
+    ident-requires
+    enum-known-r
+    enum-told
+    answer-requires
+    returns
+    returns-2
+    refuse-requires
+    returns-3)

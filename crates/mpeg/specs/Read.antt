@@ -1,0 +1,71 @@
+-- The lines judged in their order, and the answer read off (01, "MPEG auxiliary text").
+use Prim.Native.Nat.{ℕ, _+_, _-_, _≤_}
+use mathlib.Core.Path.{_≡_}
+use mathlib.Core.List.{List}
+use lib.ListN.{length, getD, set, take, replicate}
+use lib.Dec.{ltb, eqb}
+use Rattle.plate.specs.Choice.{pick}
+use Rattle.plate.specs.Plate.{refusal}
+use Rattle.text.specs.Text.{textOk}
+use Rattle.decimal.specs.declared.Amount.{Amount}
+use Rattle.decimal.specs.declared.Amount.the-variants.{Of, Malformed}
+use Rattle.parameter.specs.Table.{rowAt}
+use Rattle.parameter.specs.Parameters.{amountOf, lacking, parametersOf}
+use Rattle.mpeg.specs.Lines.{Lines, done, malformed, line, linesAt}
+use Rattle.mpeg.specs.declared.Verdict.{Verdict}
+use Rattle.mpeg.specs.declared.Verdict.the-variants.{Fine, Bad}
+use Rattle.mpeg.specs.declared.MpegAnswer.{MpegAnswer}
+use Rattle.mpeg.specs.declared.MpegAnswer.the-variants.{Given, Refused}
+
+-- the first fault, if any, and the fourteen slots as the lines up to there leave them
+pub record Judged : Type 0 where
+  pub verdict : Verdict
+  pub slots : List ℕ
+
+abbrev pub fine : List ℕ → Judged
+fine slots = record { verdict = Fine; slots = slots }
+
+abbrev pub bad : ℕ → ℕ → List ℕ → Judged
+bad n p slots = record { verdict = Bad (refusal n p); slots = slots }
+
+-- a known identifier's line: a value of another form is 26, then a parameter that a line gave before is 10
+abbrev pub noted : List ℕ → ℕ → ℕ → Amount → Judged
+noted slots p k Malformed = bad 26 p slots
+noted slots p k (Of n) = pick (eqb (getD slots k 0) 0) (fine (set slots k (n + 1))) (bad 10 p slots)
+
+-- the line at p for row k: an unknown identifier is passed over
+unfoldable pub taken : List ℕ → ℕ → ℕ → List ℕ → Judged
+taken slots p k v = pick (ltb k 14) (noted slots p k (amountOf (rowAt k) v)) (fine slots)
+
+-- on from what a line came to
+abbrev pub after : (List ℕ → Judged) → List ℕ → Verdict → Judged
+after go-on slots Fine = go-on slots
+after go-on slots (Bad r) = record { verdict = Bad r; slots = slots }
+
+unfoldable pub judge : List ℕ → Lines → Judged
+judge slots done = fine slots
+judge slots (malformed p) = bad 26 p slots
+judge slots (line p k v rest) = after (λ next. judge next rest) (taken slots p k v .slots) (taken slots p k v .verdict)
+
+-- what a function gives and leaves is what was judged
+abbrev pub Agrees : Judged → Verdict → List ℕ → Type 0
+Agrees j verdict slots = (verdict ≡ j .verdict) × (slots ≡ j .slots)
+
+-- a place from which on the lines are judged as from another: none between them counts
+abbrev pub Skipped : List ℕ → ℕ → ℕ → Type 0
+Skipped s from at = (from ≤ at) × (at ≤ length s) × ((slots : List ℕ) → judge slots (linesAt s from) ≡ judge slots (linesAt s at))
+
+-- at the end 27, or every parameter
+unfoldable pub answerOf : List ℕ → MpegAnswer
+answerOf slots = pick (lacking slots 14) (Refused (refusal 27 0)) (Given (parametersOf slots))
+
+abbrev pub ended : List ℕ → Verdict → MpegAnswer
+ended slots Fine = answerOf slots
+ended slots (Bad r) = Refused r
+
+abbrev pub read : Judged → MpegAnswer
+read j = ended (j .slots) (j .verdict)
+
+-- the text rule first; the closing 00 is no part of the lines
+unfoldable pub readOf : List ℕ → MpegAnswer
+readOf v = pick (textOk v) (read (judge (replicate 14 0) (linesAt (take (length v - 1) v) 0))) (Refused (refusal 11 0))

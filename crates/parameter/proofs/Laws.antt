@@ -1,0 +1,51 @@
+-- What the functions over one parameter rest on.
+use Prim.Native.Nat.{ℕ, zero, suc, _-_, _^_, _<_, _≤_}
+use mathlib.Core.Path.{_≡_, refl}
+use mathlib.Core.Bool.{Bool, true, false}
+use mathlib.Core.List.{List}
+use native.Mathlib.Omega.{arith}
+use borrow.Author.Tests.{ltb-true, leb-true}
+use lib.ListN.{getD}
+use lib.Dec.{ltb, leb}
+use Rattle.plate.specs.Choice.{pick}
+use Rattle.decimal.specs.Decimal.{wholeOf, rateOf}
+use Rattle.decimal.specs.declared.Amount.the-variants.{Of}
+use Rattle.decimal.proofs.Laws.{whole-lt, rate-most}
+use Rattle.parameter.specs.Table.{rowAt, required, rate, least, most}
+use Rattle.parameter.specs.Parameters.{amountOf, given, numberOf, lacking}
+use Rattle.parameter.specs.declared.Row.{Row}
+
+-- a line's number has room for one more
+pub amount-most : (r : Row) (v : List ℕ) (n : ℕ) → amountOf r v ≡ Of n → n ≤ 2 ^ 53
+unfolding amountOf
+amount-most r v n = go (rate r)
+  where
+    go : (b : Bool) → pick b (rateOf v) (wholeOf v) ≡ Of n → n ≤ 2 ^ 53
+    go true e = rate-most v n e
+    go false e = let w = whole-lt v n e in omega arith
+
+-- a given parameter's slot is no 0, and its number is in the list
+pub given-some : (r : Row) (slot : ℕ) → given r slot ≡ true → (0 < slot) × (slot - 1 ≤ most r)
+unfolding given
+given-some r slot = go (ltb 0 slot) (leb (least r) (slot - 1)) (leb (slot - 1) (most r)) refl refl
+  where
+    go : (a b d : Bool) → ltb 0 slot ≡ a → leb (slot - 1) (most r) ≡ d → pick a (pick b d false) false ≡ true → (0 < slot) × (slot - 1 ≤ most r)
+    go true true true p q e = (ltb-true 0 slot p, leb-true (slot - 1) (most r) q)
+    go true true false p q e = absurd (let z : _≡_ {A = ℕ} 0 1 = cc in omega arith)
+    go true false d p q e = absurd (let z : _≡_ {A = ℕ} 0 1 = cc in omega arith)
+    go false b d p q e = absurd (let z : _≡_ {A = ℕ} 0 1 = cc in omega arith)
+
+pub number-most : (r : Row) (slot : ℕ) → numberOf r slot ≤ most r
+unfolding numberOf
+number-most r slot = go (given r slot) refl
+  where
+    go : (b : Bool) → given r slot ≡ b → pick b (slot - 1) 0 ≤ most r
+    go true e = given-some r slot e .1
+    go false e = omega arith
+
+pub lacking-turn : (slots : List ℕ) (k : ℕ) → 0 < k
+    → lacking slots k
+    ≡ pick (required (rowAt (k - 1))) (pick (given (rowAt (k - 1)) (getD slots (k - 1) 0)) (lacking slots (k - 1)) true) (lacking slots (k - 1))
+unfolding lacking
+lacking-turn slots zero h = absurd (omega arith)
+lacking-turn slots (suc n) h = let e : suc n - 1 ≡ n = omega arith in rw e
