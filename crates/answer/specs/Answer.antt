@@ -18,7 +18,7 @@ use Rattle.answer.specs.declared.Code.the-variants as code
 use Rattle.answer.specs.declared.Material.{Material}
 use Rattle.answer.specs.declared.Track.{Track}
 
--- a number, most significant byte first; 9 has seen to its four bytes
+-- a number, most significant byte first; in an accepted section it has its four bytes
 unfoldable pub valueOf : Found → Value
 valueOf missing = value.Absent
 valueOf (found p v) = pick (eqb (length v) 4) (value.Is (be v 0 4)) value.Absent
@@ -38,7 +38,7 @@ codeOf tag (value.Is n) =
     (pick (eqb n 0xFFFFFFFE) code.NotAvailable
     (pick (allowed tag n) (code.Is n) code.Absent))
 
--- the null name: text of one byte is a lone 00
+-- the null name: in an accepted section a text of one byte is a lone 00
 unfoldable pub isNull : Part → Bool
 isNull (part.At p n) = eqb n 1
 isNull part.Absent = false

@@ -137,7 +137,7 @@ pub fn code_at(s: &[u8], base: usize, tag: u8) -> Code
     }
 }
 
-// Whether a name is the null name: text of one byte is a lone 00.
+// Whether a name is the null name: in an accepted section a text of one byte is a lone 00.
 pub fn is_null(name: Part) -> bool
     ensures { λ r. ⌜ r ≡ isNull name ⌝ }
 {

@@ -1,4 +1,5 @@
 pub mod Judged
 pub mod Lookup
 pub mod Once
+pub mod Places
 pub mod Split

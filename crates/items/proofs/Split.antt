@@ -30,11 +30,11 @@ value-length s at n h = length-take-le n (drop (at + 2) s) (simp length-drop h)
 module _ (s : List ℕ) (at f : ℕ) (h : zero < f) where
   pub split-done : length s ≤ at → split f (drop at s) ≡ clean
   unfolding split
-  split-done e = rw (drop-of-length-le s e) (go f)
+  split-done e = rw (drop-of-length-le s e) (go f h)
     where
-      go : (f : ℕ) → split f [] ≡ clean
-      go zero = refl
-      go (suc f) = refl
+      go : (f : ℕ) → zero < f → split f [] ≡ clean
+      go zero h = absurd (omega arith)
+      go (suc f) h = refl
 
   pub split-short : at + 1 ≡ length s → split f (drop at s) ≡ torn
   unfolding split

@@ -12,7 +12,7 @@ pub data Found : Type 0 where
   missing : Found
   found : ℕ → List ℕ → Found
 
--- the first item of a tag, in items from place p on: the place of its bytes, and they
+-- the first item of a tag, in items from place p on: where its value begins, and the value
 unfoldable pub find : ℕ → ℕ → List Item → Found
 find tag p [] = missing
 find tag p (i ∷ is) = pick (eqb (i .tag) tag) (found (p + 2) (i .value)) (find tag (p + 2 + length (i .value)) is)

@@ -22,7 +22,7 @@ after i p = record { items = i ∷ p .items; whole = p .whole }
 
 -- f is more than the items that can follow
 unfoldable pub split : ℕ → List ℕ → Parts
-split zero s = record { items = []; whole = true }
+split zero s = record { items = []; whole = false }
 split (suc f) [] = record { items = []; whole = true }
 split (suc f) (t ∷ []) = record { items = []; whole = false }
 split (suc f) (t ∷ n ∷ s) =
@@ -36,7 +36,7 @@ unfoldable pub sizeOf : List Item → ℕ
 sizeOf [] = 0
 sizeOf (i ∷ is) = 2 + length (i .value) + sizeOf is
 
--- the bytes that some items are
+-- the bytes that some items are; a value of more than 255 has no length byte, and no law about bytes speaks of one
 unfoldable pub bytesOf : List Item → List ℕ
 bytesOf [] = []
 bytesOf (i ∷ is) = i .tag ∷ length (i .value) ∷ (i .value ++ bytesOf is)

@@ -27,7 +27,7 @@ pub enum Verdict {
     Refused(Refusal),
 }
 
-// Where an item's bytes stand, and how many there are.
+// Where some bytes of a packet stand, and how many there are: an item's value, its stored length.
 pub enum Part {
     At(usize, usize),
     Absent,

@@ -50,7 +50,7 @@ pub one-within : (p : List ℕ) (a : ℕ) → layoutOf p ≡ One a → (20 ≤ a
 one-within p a q = rw q at (layout-within p)
 
 -- places in the sections are places in the packet
-part-length : (from to : ℕ) (p : List ℕ) → length (part from to p) ≤ to - from
+pub part-length : (from to : ℕ) (p : List ℕ) → length (part from to p) ≤ to - from
 part-length from to p = simp length-take (omega arith)
 
 pub material-fits : (p : List ℕ) (n : ℕ) → 20 ≤ n → length p ≤ n → 20 + length (materialIn p (layoutOf p)) ≤ n

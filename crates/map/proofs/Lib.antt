@@ -1,3 +1,4 @@
 pub mod Encoded
+pub mod Faults
 pub mod Laws
 pub mod Once

@@ -13,6 +13,8 @@ use Rattle.map.proofs.count_of.Kinds as count-of-kinds
 use Rattle.map.proofs.count_of.Reads as count-of-reads
 use Rattle.map.proofs.kth_of.Kinds as kth-of-kinds
 use Rattle.map.proofs.kth_of.Reads as kth-of-reads
+use Rattle.map.proofs.id_of.Kinds as id-of-kinds
+use Rattle.map.proofs.id_of.Reads as id-of-reads
 use Rattle.map.proofs.types_of.Kinds as types-of-kinds
 use Rattle.map.proofs.types_of.Reads as types-of-reads
 use Rattle.map.proofs.answer_of.Kinds as answer-of-kinds
@@ -38,6 +40,9 @@ count-of-once κs a x y s t p q = p ∙ sym q
 
 pub kth-of-once : OneAnswer 1 kth-of-kinds.ps kth-of-kinds.r kth-of-reads.Post
 kth-of-once κs a x y s t p q = p ∙ sym q
+
+pub id-of-once : OneAnswer 1 id-of-kinds.ps id-of-kinds.r id-of-reads.Post
+id-of-once κs a x y s t p q = p ∙ sym q
 
 pub types-of-once : OneAnswer 1 types-of-kinds.ps types-of-kinds.r types-of-reads.Post
 types-of-once κs a x y s t p q = ap (λ (k : List ℕ). record { kinds = k }) (p ∙ sym q)

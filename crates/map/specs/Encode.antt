@@ -1,4 +1,5 @@
 -- A map packet put together (RDD 14, 7.1; 01, "Map"): true lengths, and the fewest zeros as padding.
+-- It is a packet where the four reserved bytes are four and each section and track is under 65,536 bytes: the laws ask that (`Fit`).
 use Prim.Native.Nat.{ℕ, _+_, _-_, _%_}
 use mathlib.Core.List.{List, [], _∷_, _++_, map}
 use lib.ListN.{length, replicate}
@@ -32,7 +33,7 @@ padding n = (4 - n % 4) % 4
 unfoldable pub sectionBytes : List ℕ → List ℕ → List ℕ
 sectionBytes m t = beBytes 2 (length m) ++ (m ++ (beBytes 2 (length t) ++ t))
 
--- header and preamble take 18 bytes
+-- header and preamble take 18 bytes, the two length words 4
 unfoldable pub packetLength : List ℕ → List ℕ → ℕ
 packetLength m t = 22 + length m + length t + padding (22 + length m + length t)
 

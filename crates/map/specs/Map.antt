@@ -1,4 +1,5 @@
 -- The map packet (RDD 14, 7.1.2; 01, "Map"): its two sections, the verdict and the answer.
+-- p is the bytes of one packet, from its header's first byte to its length; the header itself is judged by `packetAt`, in `mapAt` and `trackAt`.
 use Prim.Native.Nat.{ℕ, _+_, _-_}
 use mathlib.Core.List.{List, []}
 use lib.ListN.{length, getD, take, drop, replicate}
@@ -40,7 +41,7 @@ afterMaterial p a =
 unfoldable pub layoutOf : List ℕ → Layout
 layoutOf p = pick (ltb (length p) 20) Neither (pick (ltb (length p - 20) (be p 18 2)) Neither (afterMaterial p (20 + be p 18 2)))
 
--- the bytes of the material section, and of the track section; none where one is missing
+-- the bytes of the material section, and of the track section; none where one is missing or passes the packet
 abbrev pub materialIn : List ℕ → Layout → List ℕ
 materialIn p (Both a e) = part 20 a p
 materialIn p (One a) = part 20 a p
@@ -51,7 +52,7 @@ tracksIn p (Both a e) = part (a + 2) e p
 tracksIn p (One a) = []
 tracksIn p Neither = []
 
--- the place of the first track
+-- the place where the track section begins
 abbrev pub tracksAt : Layout → ℕ
 tracksAt (Both a e) = a + 2
 tracksAt (One a) = 0

@@ -1,4 +1,6 @@
 // The map reader: the verdict on a map packet, its material answer, its listed tracks by number, and their IDs with types.
+// `read` and `track` take lent bytes and a position. The functions `.._of` take the bytes of one packet whose header was read, up to its length;
+// what those that give no verdict say is 01's answer where `verdict_of` accepts, and of other bytes what the lengths alone give.
 use answer::Material;
 use answer::Track;
 use items::Section;
@@ -19,6 +21,7 @@ pub enum Layout {
     Both(usize, usize),
     // The track section is missing or passes the packet.
     One(usize),
+    // The material section is missing or passes the packet.
     Neither,
 }
 
@@ -92,7 +95,7 @@ fn track_part(p: &[u8]) -> &[u8]
     }
 }
 
-// The place of the first track.
+// The place where the track section begins; 0 where it is missing.
 fn first_track(p: &[u8]) -> usize
     ensures { λ r. ⌜ r ≡ tracksAt (layoutOf (now (p .entry))) ⌝ }
 {
@@ -128,7 +131,7 @@ fn judge_one(p: &[u8], a: usize) -> Verdict
     }
 }
 
-// The verdict on the bytes of a map packet: 8, 7, 9, 11, 10 and 12 in walk order.
+// The verdict on the bytes of a map packet: its first fault in walk order.
 pub fn verdict_of(p: &[u8]) -> Verdict
     ensures { λ r. ⌜ r ≡ mapVerdict (now (p .entry)) ⌝ }
 {

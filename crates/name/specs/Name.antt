@@ -58,7 +58,7 @@ inOpened s id (opened.Bytes n) = orNotThere (nameIn (take n s) id)
 unfoldable pub nameAt : List ℕ → ℕ → NameAnswer
 nameAt s id = inOpened s id (openedOf s)
 
--- the part's bytes, and where it begins in the memory that the lent slice is: a block and an offset
+-- the part's bytes, and where it begins in the memory that the lent slice is, a block and an offset; where refused, at the slice's start
 abbrev pub nameBytes : List ℕ → NameAnswer → List ℕ
 nameBytes s (name.At q n) = take n (drop q s)
 nameBytes s (name.Refused r) = []

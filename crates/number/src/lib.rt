@@ -48,7 +48,7 @@ pub fn le_at(s: &[u8], at: usize, n: usize) -> usize
     v
 }
 
-// Writes the last n bytes of a number, most significant first.
+// Writes the n least significant bytes of a number, the most significant of them first.
 pub fn put_be(out: &mut [u8], at: usize, v: usize, n: usize)
     requires { ⌜ at + n ≤ length (now out) ⌝ }
     ensures { λ _. ⌜ now (out .exit) ≡ sets (now (out .entry)) at (beBytes n v) ⌝ }
@@ -62,7 +62,7 @@ pub fn put_be(out: &mut [u8], at: usize, v: usize, n: usize)
     }
 }
 
-// Writes the last n bytes of a number, least significant first.
+// Writes the n least significant bytes of a number, the least significant first.
 pub fn put_le(out: &mut [u8], at: usize, v: usize, n: usize)
     requires { ⌜ at + n ≤ length (now out) ⌝ }
     ensures { λ _. ⌜ now (out .exit) ≡ sets (now (out .entry)) at (leBytes n v) ⌝ }

@@ -9,6 +9,8 @@ use Rattle.track_section.proofs.count.Kinds as count-kinds
 use Rattle.track_section.proofs.count.Reads as count-reads
 use Rattle.track_section.proofs.kth_record.Kinds as kth-record-kinds
 use Rattle.track_section.proofs.kth_record.Reads as kth-record-reads
+use Rattle.track_section.proofs.record_of_id.Kinds as record-of-id-kinds
+use Rattle.track_section.proofs.record_of_id.Reads as record-of-id-reads
 use Rattle.track_section.proofs.types_by_id.Kinds as types-by-id-kinds
 use Rattle.track_section.proofs.types_by_id.Reads as types-by-id-reads
 
@@ -20,6 +22,9 @@ count-once κs a x y s t p q = p ∙ sym q
 
 pub kth-record-once : OneAnswer 1 kth-record-kinds.ps kth-record-kinds.r kth-record-reads.Post
 kth-record-once κs a x y s t p q = p ∙ sym q
+
+pub record-of-id-once : OneAnswer 1 record-of-id-kinds.ps record-of-id-kinds.r record-of-id-reads.Post
+record-of-id-once κs a x y s t p q = p ∙ sym q
 
 pub types-by-id-once : OneAnswer 1 types-by-id-kinds.ps types-by-id-kinds.r types-by-id-reads.Post
 types-by-id-once κs a x y s t p q = ap (λ (k : List ℕ). record { kinds = k }) (p ∙ sym q)

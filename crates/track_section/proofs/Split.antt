@@ -29,11 +29,11 @@ be-two s at = rw add-zero (omega arith)
 module _ (s : List ℕ) (at f : ℕ) (h : zero < f) where
   pub split-done : length s ≤ at → split f (drop at s) ≡ none over
   unfolding split
-  split-done e = rw (drop-of-length-le s e) (go f)
+  split-done e = rw (drop-of-length-le s e) (go f h)
     where
-      go : (f : ℕ) → split f [] ≡ none over
-      go zero = refl
-      go (suc f) = refl
+      go : (f : ℕ) → zero < f → split f [] ≡ none over
+      go zero h = absurd (omega arith)
+      go (suc f) h = refl
 
   pub split-short : at < length s → length s - at < 4 → split f (drop at s) ≡ none short
   unfolding split

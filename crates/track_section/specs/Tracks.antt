@@ -42,7 +42,7 @@ after d ds = record { list = d ∷ ds .list; end = ds .end }
 
 -- type, ID, a 16-bit length and that many bytes; f is more than the tracks that can follow
 unfoldable pub split : ℕ → List ℕ → Descriptions
-split zero s = none over
+split zero s = none short
 split (suc f) [] = none over
 split (suc f) (k ∷ []) = none short
 split (suc f) (k ∷ i ∷ []) = none short
@@ -69,7 +69,7 @@ bytesOf (d ∷ ds) = d .kind ∷ d .id ∷ (beBytes 2 (length (d .items)) ++ (d 
 abbrev pub onBytes : ℕ → ℕ → ℕ → Verdict → Verdict
 onBytes k i p next = pick (ltb k 0x80) (bad 12 p) (pick (ltb i 0xC0) (bad 12 p) next)
 
--- what a track must meet once its items have passed: nothing yet
+-- what a track must meet at its end, once its items have passed: nothing today, a place of its own for what may come
 abbrev pub trackOver : ℕ → List ℕ → ℕ → Verdict
 trackOver kind items p = Accepted
 
@@ -113,7 +113,7 @@ listed p (d ∷ ds) =
 unfoldable pub recordOf : Placed → Track
 recordOf x = trackOf (x .track .kind) (x .track .id) (x .at + 4) (sectionOf (x .track .items) .items)
 
--- the record of the k-th
+-- the record of the k-th, from 0
 unfoldable pub kthOf : ℕ → List Placed → Kth
 kthOf k [] = Nothing
 kthOf zero (x ∷ xs) = Record (recordOf x)

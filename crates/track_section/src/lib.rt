@@ -22,7 +22,7 @@ pub struct Types {
     pub kinds: [u8; 64],
 }
 
-// The listed track of a number, if there is one.
+// A listed track that was asked for by its number or its ID, if there is one.
 pub enum Kth {
     Record(Track),
     Nothing,

@@ -1,0 +1,65 @@
+-- A piece of a stream (01, "Stream, seek, book"): what one packet is to the rules of streams.
+use Prim.Native.Nat.{ℕ, _+_}
+use mathlib.Core.Bool.{Bool, true, false}
+use mathlib.Core.List.{List}
+use lib.ListN.{length, take, drop}
+use lib.Dec.{eqb}
+use Rattle.plate.specs.Choice.{pick}
+use Rattle.plate.specs.Plate.{refusal}
+use Rattle.plate.specs.declared.Refusal.{Refusal}
+use Rattle.packet.specs.Packet.{headerAt}
+use Rattle.packet.specs.declared.PacketAnswer.{PacketAnswer}
+use Rattle.packet.specs.declared.PacketAnswer.the-variants as packet
+use Rattle.items.specs.declared.Verdict.{Verdict}
+use Rattle.items.specs.declared.Verdict.the-variants as verdict
+use Rattle.map.specs.Map.{mapVerdict}
+use Rattle.locator.specs.Locator.{tableOf}
+use Rattle.locator.specs.declared.LocatorAnswer.{LocatorAnswer}
+use Rattle.locator.specs.declared.LocatorAnswer.the-variants as locator
+use Rattle.media.specs.Media.{preambleOf}
+use Rattle.media.specs.declared.MediaAnswer.{MediaAnswer}
+use Rattle.media.specs.declared.MediaAnswer.the-variants as media
+use Rattle.piece.specs.declared.Piece.{Piece}
+use Rattle.piece.specs.declared.PieceAnswer.{PieceAnswer}
+use Rattle.piece.specs.declared.PieceAnswer.the-variants.{Whole, Refused}
+
+-- a check adds the packet's offset to places inside the packet
+abbrev pub moved : ℕ → Refusal → Refusal
+moved at r = refusal (r .number) (r .place + at)
+
+-- a packet of a type and a length, of which the rules ask no more
+abbrev pub plainPiece : ℕ → ℕ → PieceAnswer
+plainPiece role len = Whole (record { role = role; len = len; kind = 0; track = 0; field = 0 })
+
+abbrev pub ofMap : ℕ → ℕ → Verdict → PieceAnswer
+ofMap at len verdict.Accepted = plainPiece 0xBC len
+ofMap at len (verdict.Refused r) = Refused (moved at r)
+
+abbrev pub ofLocator : ℕ → ℕ → LocatorAnswer → PieceAnswer
+ofLocator at len (locator.Table t) = plainPiece 0xFC len
+ofLocator at len (locator.Refused r) = Refused (moved at r)
+
+abbrev pub ofMedia : ℕ → ℕ → MediaAnswer → PieceAnswer
+ofMedia at len (media.Preamble m) = Whole (record { role = 0xBF; len = len; kind = m .kind; track = m .track; field = m .field })
+ofMedia at len (media.Refused r) = Refused (moved at r)
+
+-- maps whole, FLT counts, the media preamble; EOS, UMF and reserved packets are not opened
+unfoldable pub contentOf : List ℕ → ℕ → ℕ → PieceAnswer
+contentOf p at role =
+    pick (eqb role 0xBF) (ofMedia at (length p) (preambleOf p 0))
+    (pick (eqb role 0xBC) (ofMap at (length p) (mapVerdict p))
+    (pick (eqb role 0xFC) (ofLocator at (length p) (tableOf p))
+    (plainPiece role (length p))))
+
+-- 17: the first packet is a map
+unfoldable pub opens : Bool → ℕ → Bool
+opens true role = eqb role 0xBC
+opens false role = true
+
+-- header faults, 17, content faults
+abbrev pub afterHeader : List ℕ → ℕ → Bool → PacketAnswer → PieceAnswer
+afterHeader s at first (packet.Refused r) = Refused r
+afterHeader s at first (packet.Whole w) = pick (opens first (w .kind)) (contentOf (take (w .len) (drop at s)) at (w .kind)) (Refused (refusal 17 at))
+
+unfoldable pub pieceAt : List ℕ → ℕ → Bool → PieceAnswer
+pieceAt s at first = afterHeader s at first (headerAt s at)

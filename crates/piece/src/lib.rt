@@ -1,0 +1,125 @@
+// A piece of a stream: what one packet is to the rules of streams, or the first fault of its header and content.
+use items::Verdict;
+use locator::LocatorAnswer;
+use media::MediaAnswer;
+use packet::PacketAnswer;
+use plate::Refusal;
+ghost use mathlib.Core.Path.{_≡_};
+ghost use Prim.Native.Nat.{_+_, _<_, _≤_, _^_};
+ghost use lib.ListN.{length};
+ghost use Rattle.piece.specs.Piece.{moved, opens, contentOf, pieceAt};
+
+// A packet's type and length, and of a media packet its media type, track ID and field number; of any other, zeros.
+pub struct Piece {
+    pub role: u8,
+    pub len: usize,
+    pub kind: u8,
+    pub track: u8,
+    pub field: u32,
+}
+
+pub enum PieceAnswer {
+    Whole(Piece),
+    Refused(Refusal),
+}
+
+// A refusal of a packet that stands at a position: places inside the packet get its offset added.
+fn refused_at(r: Refusal, at: usize) -> PieceAnswer
+    requires { ⌜ r .place + at < 2 ^ 64 ⌝ }
+    ensures { λ x. ⌜ x ≡ PieceAnswer.Refused (moved at r) ⌝ }
+{
+    PieceAnswer::Refused(plate::refuse(r.number, r.place + at))
+}
+
+// A packet that says nothing but its type and length.
+fn plain(role: u8, len: usize) -> PieceAnswer
+    ensures { λ x. ⌜ x ≡ PieceAnswer.Whole (record { role = role; len = len; kind = 0; track = 0; field = 0 }) ⌝ }
+{
+    PieceAnswer::Whole(Piece {
+        role,
+        len,
+        kind: 0,
+        track: 0,
+        field: 0,
+    })
+}
+
+fn map_content(p: &[u8], at: usize) -> PieceAnswer
+    requires { ⌜ (16 ≤ length (now p)) × (at + length (now p) < 2 ^ 64) ⌝ }
+    ensures { λ x. ⌜ x ≡ contentOf (now (p .entry)) at 0xBC ⌝ }
+{
+    match map::verdict_of(p) {
+        Verdict::Refused(r) => refused_at(r, at),
+        Verdict::Accepted => plain(packet::MAP, p.len()),
+    }
+}
+
+fn locator_content(p: &[u8], at: usize) -> PieceAnswer
+    requires { ⌜ (16 ≤ length (now p)) × (at + length (now p) < 2 ^ 64) ⌝ }
+    ensures { λ x. ⌜ x ≡ contentOf (now (p .entry)) at 0xFC ⌝ }
+{
+    match locator::table(p) {
+        LocatorAnswer::Refused(r) => refused_at(r, at),
+        LocatorAnswer::Table(_) => plain(packet::FLT, p.len()),
+    }
+}
+
+fn media_content(p: &[u8], at: usize) -> PieceAnswer
+    requires { ⌜ (16 ≤ length (now p)) × (at + length (now p) < 2 ^ 64) ⌝ }
+    ensures { λ x. ⌜ x ≡ contentOf (now (p .entry)) at 0xBF ⌝ }
+{
+    match media::preamble(p, 0) {
+        MediaAnswer::Refused(r) => refused_at(r, at),
+        MediaAnswer::Preamble(m) => PieceAnswer::Whole(Piece {
+            role: packet::MEDIA,
+            len: p.len(),
+            kind: m.kind,
+            track: m.track,
+            field: m.field,
+        }),
+    }
+}
+
+// The content of a whole packet that stands at a position.
+fn content(p: &[u8], at: usize, role: u8) -> PieceAnswer
+    requires { ⌜ (16 ≤ length (now p)) × (at + length (now p) < 2 ^ 64) ⌝ }
+    ensures { λ x. ⌜ x ≡ contentOf (now (p .entry)) at role ⌝ }
+{
+    if role == packet::MEDIA {
+        return media_content(p, at);
+    }
+    if role == packet::MAP {
+        return map_content(p, at);
+    }
+    if role == packet::FLT {
+        return locator_content(p, at);
+    }
+    plain(role, p.len())
+}
+
+// Whether a packet of a type may stand where it does: the first is a map.
+fn may_open(first: bool, role: u8) -> bool
+    ensures { λ r. ⌜ r ≡ opens first role ⌝ }
+{
+    if first {
+        return role == packet::MAP;
+    }
+    true
+}
+
+// The packet at a position of a stream: header faults, 17, content faults.
+pub fn piece_at(s: &[u8], at: usize, first: bool) -> PieceAnswer
+    ensures { λ x. ⌜ x ≡ pieceAt (now (s .entry)) at first ⌝ }
+{
+    match packet::header(s, at) {
+        PacketAnswer::Refused(r) => PieceAnswer::Refused(r),
+        PacketAnswer::Whole(w) => {
+            let role = w.kind;
+            let e = at + w.len;
+            if may_open(first, role) {
+                return content(&s[at..e], at, role);
+            }
+            PieceAnswer::Refused(plate::refuse(plate::NO_MAP_FIRST, at))
+        }
+    }
+}
