@@ -1,0 +1,24 @@
+use Rattle.order.proofs.is_misplaced.Statement.{statement}
+use Rattle.order.proofs.is_misplaced.Tie as tie
+use Rattle.order.proofs.is_misplaced.Reads as reads
+use Rattle.order.proofs.is_misplaced.Lts as lts
+use borrow.Author.Needs.{needs}
+use native.Mathlib.Omega.{arith}
+use Rattle.plate.proofs.Tests.{tests}
+use borrow.Author.Tests.{eq-eqb, ne-eqb}
+use Rattle.order.specs.Order.{misplaced}
+
+returns : tie.Need-returns
+unfolding misplaced
+returns c = rw (c .if1 .taken)
+
+returns-2 : tie.Need-returns-2
+unfolding misplaced
+returns-2 c = rw (c .before .if1 .left, c .if2 .taken)
+
+returns-3 : tie.Need-returns-3
+unfolding misplaced
+returns-3 c = rw (c .before .if1 .left, c .if2 .left)
+
+pub is-misplaced-spec : {M : Type 1} → statement M
+is-misplaced-spec = tie.close (tie.spec returns returns-2 returns-3)

@@ -1,0 +1,20 @@
+use Rattle.order.proofs.is_overdue.Statement.{statement}
+use Rattle.order.proofs.is_overdue.Tie as tie
+use Rattle.order.proofs.is_overdue.Reads as reads
+use Rattle.order.proofs.is_overdue.Lts as lts
+use borrow.Author.Needs.{needs}
+use native.Mathlib.Omega.{arith}
+use Rattle.plate.proofs.Tests.{tests}
+use borrow.Author.Tests.{eq-eqb, ne-eqb}
+use Rattle.order.specs.Order.{overdue}
+
+returns : tie.Need-returns
+unfolding overdue
+returns c = rw (eq-eqb _ _ (c .if1 .taken))
+
+returns-2 : tie.Need-returns-2
+unfolding overdue
+returns-2 c = rw (ne-eqb _ _ (c .if1 .left))
+
+pub is-overdue-spec : {M : Type 1} → statement M
+is-overdue-spec = tie.close (tie.spec returns returns-2)

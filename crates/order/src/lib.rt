@@ -1,0 +1,159 @@
+// The order of packets in a stream: the progress so far and one piece give the next progress, the end, or a refusal. It looks at no byte.
+use piece::Piece;
+use plate::Refusal;
+ghost use mathlib.Core.Path.{_≡_};
+ghost use Prim.Native.Nat.{_+_, _<_, _^_};
+ghost use mathlib.Core.Bool.{true, false};
+ghost use Rattle.plate.specs.Plate.{refusal};
+ghost use Rattle.order.specs.Order.{misplaced, overdue, unmapped, eitherRole, falls, after, ending, stepOf};
+
+// What has passed: packets in all, packets since the latest map, whether an FLT was seen, whether EOS must follow it, whether a UMF was seen.
+pub struct Progress {
+    pub count: usize,
+    pub since: usize,
+    pub flt: bool,
+    pub due: bool,
+    pub umf: bool,
+}
+
+pub enum Step {
+    Next(Progress),
+    // The stream ends here, with so many packets.
+    Ended(usize),
+    Refused(Refusal),
+}
+
+fn refused(number: u8, at: usize) -> Step
+    ensures { λ r. ⌜ r ≡ Step.Refused (refusal number at) ⌝ }
+{
+    Step::Refused(plate::refuse(number, at))
+}
+
+// Before the first packet.
+pub fn start() -> Progress
+    ensures { λ r. ⌜ r ≡ record { count = 0; since = 0; flt = false; due = false; umf = false } ⌝ }
+{
+    Progress {
+        count: 0,
+        since: 0,
+        flt: false,
+        due: false,
+        umf: false,
+    }
+}
+
+// 19: a second FLT, or a packet that is no EOS after an FLT that did not directly follow the first map.
+fn is_misplaced(due: bool, flt: bool, role: u8) -> bool
+    ensures { λ r. ⌜ r ≡ misplaced due flt role ⌝ }
+{
+    if due {
+        return role != packet::EOS;
+    }
+    if flt {
+        return role == packet::FLT;
+    }
+    false
+}
+
+// 20: the hundredth packet in a row without a map.
+fn is_overdue(since: usize, role: u8) -> bool
+    ensures { λ r. ⌜ r ≡ overdue since role ⌝ }
+{
+    if role == packet::MAP {
+        return false;
+    }
+    99 <= since
+}
+
+// 22: a media packet of known type whose ID the latest map does not list under that type; listed is the type that it does list.
+fn is_unmapped(role: u8, kind: u8, listed: u8) -> bool
+    ensures { λ r. ⌜ r ≡ unmapped role kind listed ⌝ }
+{
+    if role == packet::MEDIA {
+        if kind == listed {
+            return false;
+        }
+        return media_type::is_known(kind);
+    }
+    false
+}
+
+fn or_role(flag: bool, role: u8, wanted: u8) -> bool
+    ensures { λ r. ⌜ r ≡ eitherRole flag role wanted ⌝ }
+{
+    if flag {
+        return true;
+    }
+    role == wanted
+}
+
+// Whether EOS must follow: an FLT anywhere but directly behind the first map.
+fn falls_due(count: usize, role: u8) -> bool
+    ensures { λ r. ⌜ r ≡ falls count role ⌝ }
+{
+    if role == packet::FLT {
+        return count != 1;
+    }
+    false
+}
+
+// The progress after a packet that may stand where it does.
+fn passed(p: Progress, role: u8) -> Progress
+    requires { ⌜ (p .count + 1 < 2 ^ 64) × (p .since + 1 < 2 ^ 64) ⌝ }
+    ensures { λ r. ⌜ r ≡ after p role ⌝ }
+{
+    let flt = or_role(p.flt, role, packet::FLT);
+    let umf = or_role(p.umf, role, packet::UMF);
+    let due = falls_due(p.count, role);
+    if role == packet::MAP {
+        return Progress {
+            count: p.count + 1,
+            since: 0,
+            flt,
+            due,
+            umf,
+        };
+    }
+    Progress {
+        count: p.count + 1,
+        since: p.since + 1,
+        flt,
+        due,
+        umf,
+    }
+}
+
+// An EOS at a position: 18 where bytes follow, 21 where no UMF came before.
+fn at_end(p: Progress, at: usize, more: bool) -> Step
+    requires { ⌜ p .count + 1 < 2 ^ 64 ⌝ }
+    ensures { λ r. ⌜ r ≡ ending p at more ⌝ }
+{
+    if more {
+        return refused(plate::STREAM_END, at);
+    }
+    if p.umf {
+        return Step::Ended(p.count + 1);
+    }
+    refused(plate::NO_UMF, at)
+}
+
+// One piece at a position, with the type that the latest map lists under its ID, and whether bytes follow it: 19, 20, 22, 18, 21.
+pub fn take_step(p: Progress, x: Piece, at: usize, listed: u8, more: bool) -> Step
+    requires { ⌜ (p .count + 1 < 2 ^ 64) × (p .since + 1 < 2 ^ 64) ⌝ }
+    ensures { λ r. ⌜ r ≡ stepOf p x at listed more ⌝ }
+{
+    let role = x.role;
+    if is_misplaced(p.due, p.flt, role) {
+        return refused(plate::LOCATOR_PLACE, at);
+    }
+    if is_overdue(p.since, role) {
+        return refused(plate::MAP_OVERDUE, at);
+    }
+    if is_unmapped(role, x.kind, listed) {
+        return refused(plate::UNMAPPED, at);
+    }
+    if role == packet::EOS {
+        return at_end(p, at, more);
+    }
+    Step::Next(passed(p, role))
+}

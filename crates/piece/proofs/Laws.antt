@@ -1,0 +1,134 @@
+-- Places in small packets, and what a whole piece tells.
+use Prim.Native.Nat.{ℕ, _+_, _-_, _*_, _≤_, _<_}
+use mathlib.Core.Path.{_≡_, refl, sym, _∙_, ap}
+use mathlib.Core.Bool.{Bool, true, false}
+use mathlib.Core.List.{List}
+use native.Mathlib.Omega.{arith}
+use lib.ListN.{length, getD, take, drop, length-drop}
+use lib.Seq.{length-take-le}
+use lib.Dec.{ltb, eqb}
+use borrow.Author.Tests.{ltb-false}
+use Rattle.plate.specs.Choice.{pick}
+use Rattle.plate.specs.Plate.{refusal}
+use Rattle.plate.specs.declared.Refusal.{Refusal}
+use Rattle.number.specs.Number.{be, le}
+use Rattle.packet.specs.Packet.{headerAt}
+use Rattle.packet.proofs.Laws.{whole}
+use Rattle.packet.specs.declared.PacketAnswer.{PacketAnswer}
+use Rattle.packet.specs.declared.PacketAnswer.the-variants as packet
+use Rattle.items.specs.declared.Verdict.{Verdict}
+use Rattle.items.specs.declared.Verdict.the-variants as verdict
+use Rattle.map.specs.Map.{mapVerdict}
+use Rattle.locator.specs.Locator.{tableOf, noTable}
+use Rattle.locator.specs.declared.LocatorAnswer.{LocatorAnswer}
+use Rattle.locator.specs.declared.LocatorAnswer.the-variants as locator
+use Rattle.media.specs.Media.{preambleOf, fieldsOf}
+use Rattle.media.specs.declared.MediaAnswer.{MediaAnswer}
+use Rattle.media.specs.declared.MediaAnswer.the-variants as media
+use Rattle.piece.specs.Piece.{plainPiece, ofMap, ofLocator, ofMedia, contentOf, opens, afterHeader, pieceAt}
+use Rattle.piece.specs.declared.Piece.{Piece}
+use Rattle.piece.specs.declared.PieceAnswer.{PieceAnswer}
+use Rattle.piece.specs.declared.PieceAnswer.the-variants.{Whole, Refused}
+use Rattle.locator.specs.declared.Locator.{Locator}
+use Rattle.packet.specs.declared.Packet.{Packet}
+use Rattle.media.specs.declared.Media.{Media}
+
+place-of : (n p : ℕ) (r : Refusal) → refusal n p ≡ r → r .place ≡ p
+place-of n p r e = sym (ap (λ (x : Refusal). x .place) e)
+
+pub locator-place : (p : List ℕ) (r : Refusal) → tableOf p ≡ locator.Refused r → r .place ≡ 16
+unfolding tableOf
+locator-place p r = go (ltb (length p - 16) 8) (ltb 1000 (le p 20 4)) (eqb (le p 16 4) 0) (ltb (length p - 16) (8 + 4 * le p 20 4)) (record { step = le p 16 4; count = le p 20 4 })
+  where
+    no : (n : ℕ) → noTable n ≡ locator.Refused r → r .place ≡ 16
+    no n e = place-of n 16 r cc
+
+    go : (a b d f : Bool) (t : Locator) → pick a (noTable 8) (pick b (noTable 14) (pick d (noTable 15) (pick f (noTable 8) (locator.Table t)))) ≡ locator.Refused r → r .place ≡ 16
+    go true b d f t e = no 8 e
+    go false true d f t e = no 14 e
+    go false false true f t e = no 15 e
+    go false false false true t e = no 8 e
+    go false false false false t e = absurd (let z : _≡_ {A = ℕ} 0 1 = cc in omega arith)
+
+pub media-place : (p : List ℕ) (r : Refusal) → preambleOf p 0 ≡ media.Refused r → r .place ≤ 16
+unfolding preambleOf
+media-place p r = go (ltb (length p - 16) 16) (ltb 63 (getD p 17 0))
+  where
+    go : (a b : Bool) → pick a (media.Refused (refusal 8 16)) (pick b (media.Refused (refusal 12 0)) (media.Preamble (fieldsOf p))) ≡ media.Refused r → r .place ≤ 16
+    go true b e = omega (arith, place-of 8 16 r cc)
+    go false true e = omega (arith, place-of 12 0 r cc)
+    go false false e = absurd (let z : _≡_ {A = ℕ} 0 1 = cc in omega arith)
+
+pub small-track : (p : List ℕ) (m : Media) → preambleOf p 0 ≡ media.Preamble m → m .track < 64
+unfolding preambleOf
+small-track p m = go (ltb (length p - 16) 16) (ltb 63 (getD p 17 0)) refl
+  where
+    go : (a b : Bool) → ltb 63 (getD p 17 0) ≡ b → pick a (media.Refused (refusal 8 16)) (pick b (media.Refused (refusal 12 0)) (media.Preamble (fieldsOf p))) ≡ media.Preamble m → m .track < 64
+    go true b q e = absurd (let z : _≡_ {A = ℕ} 0 1 = cc in omega arith)
+    go false true q e = absurd (let z : _≡_ {A = ℕ} 0 1 = cc in omega arith)
+    go false false q e =
+        let a : fieldsOf p ≡ m = cc in
+        omega (arith, ltb-false 63 (getD p 17 0) q, ap (λ (y : Media). y .track) a)
+
+-- a whole packet lies in the stream, and its bytes are as many as its length says
+pub record Cut (s : List ℕ) (at n : ℕ) : Type 0 where
+  pub within : at + n ≤ length s
+  pub least : 16 ≤ n
+  pub long : length (take n (drop at s)) ≡ n
+
+pub cut : (s : List ℕ) (at : ℕ) (w : Packet) → headerAt s at ≡ packet.Whole w → Cut s at (w .len)
+cut s at w e =
+    let g = whole s at w e in
+    record { within = omega (arith, g .within, g .least); least = g .least; long = length-take-le (w .len) (drop at s) (simp length-drop (g .within)) }
+
+-- what a piece tells of its packet: it is as long as the header says, and a track ID is 63 at most
+pub record Told (s : List ℕ) (at : ℕ) (x : Piece) : Type 0 where
+  pub cut : Cut s at (x .len)
+  pub track : x .track < 64
+
+content-told : (p : List ℕ) (at role : ℕ) (x : Piece) → contentOf p at role ≡ Whole x → (x .len ≡ length p) × (x .track < 64)
+unfolding contentOf
+content-told p at role x = go (eqb role 0xBF) (eqb role 0xBC) (eqb role 0xFC)
+  where
+    plain : (role : ℕ) → plainPiece role (length p) ≡ Whole x → (x .len ≡ length p) × (x .track < 64)
+    plain role e =
+        let a : record { role = role; len = length p; kind = 0; track = 0; field = 0 } ≡ x = cc in
+        (sym (ap (λ (y : Piece). y .len) a), omega (arith, ap (λ (y : Piece). y .track) a))
+
+    of-map : (v : Verdict) → ofMap at (length p) v ≡ Whole x → (x .len ≡ length p) × (x .track < 64)
+    of-map verdict.Accepted e = plain 0xBC e
+    of-map (verdict.Refused r) e = absurd (let z : _≡_ {A = ℕ} 0 1 = cc in omega arith)
+
+    of-locator : (v : LocatorAnswer) → ofLocator at (length p) v ≡ Whole x → (x .len ≡ length p) × (x .track < 64)
+    of-locator (locator.Table t) e = plain 0xFC e
+    of-locator (locator.Refused r) e = absurd (let z : _≡_ {A = ℕ} 0 1 = cc in omega arith)
+
+    of-media : (v : MediaAnswer) → preambleOf p 0 ≡ v → ofMedia at (length p) v ≡ Whole x → (x .len ≡ length p) × (x .track < 64)
+    of-media (media.Preamble m) q e =
+        let a : record { role = 0xBF; len = length p; kind = m .kind; track = m .track; field = m .field } ≡ x = cc in
+        (sym (ap (λ (y : Piece). y .len) a), omega (arith, ap (λ (y : Piece). y .track) a, small-track p m q))
+    of-media (media.Refused r) q e = absurd (let z : _≡_ {A = ℕ} 0 1 = cc in omega arith)
+
+    go : (a b d : Bool)
+        → pick a (ofMedia at (length p) (preambleOf p 0)) (pick b (ofMap at (length p) (mapVerdict p)) (pick d (ofLocator at (length p) (tableOf p)) (plainPiece role (length p)))) ≡ Whole x
+        → (x .len ≡ length p) × (x .track < 64)
+    go true b d e = of-media (preambleOf p 0) refl e
+    go false true d e = of-map (mapVerdict p) e
+    go false false true e = of-locator (tableOf p) e
+    go false false false e = plain role e
+
+pub told : (s : List ℕ) (at : ℕ) (first : Bool) (x : Piece) → pieceAt s at first ≡ Whole x → Told s at x
+unfolding pieceAt
+told s at first x = go (headerAt s at) refl
+  where
+    go : (h : PacketAnswer) → headerAt s at ≡ h → afterHeader s at first h ≡ Whole x → Told s at x
+    go (packet.Refused r) q e = absurd (let z : _≡_ {A = ℕ} 0 1 = cc in omega arith)
+    go (packet.Whole w) q e = by (opens first (w .kind)) e
+      where
+        by : (b : Bool) → pick b (contentOf (take (w .len) (drop at s)) at (w .kind)) (Refused (refusal 17 at)) ≡ Whole x → Told s at x
+        by true e =
+            let k = cut s at w q in
+            let t = content-told (take (w .len) (drop at s)) at (w .kind) x e in
+            let n : x .len ≡ w .len = t .0 ∙ k .long in
+            record { cut = rw n k; track = t .1 }
+        by false e = absurd (let z : _≡_ {A = ℕ} 0 1 = cc in omega arith)

@@ -1,0 +1,8 @@
+-- Any two outcomes that a contract of this crate allows are equal.
+use mathlib.Core.Path.{sym, _∙_}
+use Rattle.plate.proofs.Outcome.{OneAnswer}
+use Rattle.piece.proofs.piece_at.Kinds as piece-at-kinds
+use Rattle.piece.proofs.piece_at.Reads as piece-at-reads
+
+pub piece-at-once : OneAnswer 1 piece-at-kinds.ps piece-at-kinds.r piece-at-reads.Post
+piece-at-once κs a x y s t p q = p ∙ sym q

@@ -1,0 +1,52 @@
+use borrow.Author.Needs.{needs}
+use Rattle.piece.proofs.content.Statement.{statement}
+use Rattle.piece.proofs.content.Tie as tie
+use Rattle.piece.proofs.content.Reads as reads
+use Rattle.piece.proofs.content.Lts as lts
+use Rattle.piece.proofs.locator_content.Reads as locator-content-reads
+use Rattle.piece.proofs.map_content.Reads as map-content-reads
+use Rattle.piece.proofs.media_content.Reads as media-content-reads
+use Rattle.piece.proofs.plain.Reads as plain-reads
+use borrow.Author.Needs.{needs}
+use native.Mathlib.Omega.{arith}
+use mathlib.Core.Path.{_≡_, sym, _∙_, refl}
+use borrow.Author.Tests.{ne-eqb}
+use Rattle.piece.specs.Piece.{contentOf}
+
+media-content-requires : tie.Need-media-content-requires
+media-content-requires c κs = search needs
+
+returns : tie.Need-returns
+returns c = rw (c .before .if1 .taken) (c .media-content .ensures)
+
+map-content-requires : tie.Need-map-content-requires
+map-content-requires c κs = search needs
+
+returns-2 : tie.Need-returns-2
+returns-2 c = rw (c .before .if2 .taken) (c .map-content .ensures)
+
+locator-content-requires : tie.Need-locator-content-requires
+locator-content-requires c κs = search needs
+
+returns-3 : tie.Need-returns-3
+returns-3 c = rw (c .before .if3 .taken) (c .locator-content .ensures)
+
+plain-requires : tie.Need-plain-requires
+plain-requires c κs = search needs
+
+returns-4 : tie.Need-returns-4
+unfolding contentOf
+returns-4 c = rw (ne-eqb _ _ (c .before .before .before .if1 .left), ne-eqb _ _ (c .before .before .if2 .left), ne-eqb _ _ (c .before .if3 .left)) (c .plain .ensures)
+
+pub content-spec : {M : Type 1} → statement M
+content-spec =
+    tie.close
+    (tie.spec
+    media-content-requires
+    returns
+    map-content-requires
+    returns-2
+    locator-content-requires
+    returns-3
+    plain-requires
+    returns-4)

@@ -1,0 +1,99 @@
+-- One pass over a stream, a packet at a time: what is left to do from an offset on is the whole answer.
+use Prim.Native.Nat.{ℕ, zero, suc, _+_, _-_, _<_, _≤_}
+use mathlib.Core.Path.{_≡_, refl, sym, _∙_, ap}
+use mathlib.Core.List.{List, [], _∷_}
+use mathlib.Core.Bool.{Bool, true, false}
+use native.Mathlib.Omega.{arith}
+use lib.ListN.{length, getD, take, drop, replicate}
+use lib.Dec.{eqb, ltb}
+use borrow.Author.Tests.{lt-ltb, le-ltb, ne-eqb}
+use Rattle.plate.specs.Choice.{pick}
+use Rattle.plate.specs.declared.Refusal.{Refusal}
+use Rattle.piece.specs.Piece.{pieceAt}
+use Rattle.piece.specs.declared.Piece.{Piece}
+use Rattle.piece.specs.declared.PieceAnswer.the-variants as piece
+use Rattle.piece.proofs.Laws.{told}
+use Rattle.order.specs.Order.{started, after, stepOf}
+use Rattle.order.specs.declared.Progress.{Progress}
+use Rattle.order.specs.declared.Step.the-variants as step
+use Rattle.order.proofs.Laws.{step-next, step-ended}
+use Rattle.stream.specs.Stream.{Packets, runsOut, closed, stops, none, before, typesAfter, onPiece, packetsFrom, packets, ranOut, atEnd, onStep, judge, checkOf, carriesPiece, firstOf, orFirst, firstHere, collect, runOf}
+use Rattle.stream.specs.declared.Spot.{Spot}
+use Rattle.stream.specs.declared.Spot.the-variants as spot
+use Rattle.stream.specs.declared.CheckAnswer.{CheckAnswer}
+use Rattle.stream.specs.declared.Run.{Run}
+use Rattle.stream.specs.declared.Run.the-variants as run
+
+-- what the packets from an offset on come to, after some progress and a first carrier
+abbrev comesTo : List ℕ → ℕ → ℕ → Progress → Spot → Packets → Run
+comesTo s track field p found ps = collect (judge (length s) p (ps .list) (ps .end)) (orFirst found (firstOf track field (ps .list)))
+
+pub record Left (s : List ℕ) (track field at : ℕ) (p : Progress) (types : List ℕ) (found : Spot) : Type 0 where
+  pub fuel : ℕ
+  pub enough : length s - at < fuel
+  pub same : runOf s track field ≡ comesTo s track field p found (packetsFrom s fuel (eqb (p .count) 0) types at)
+
+pub begin : (s : List ℕ) (track field : ℕ) → Left s track field 0 started (replicate 64 0) spot.Nothing
+unfolding runOf checkOf packets
+begin s track field = record { fuel = suc (length s); enough = omega arith; same = refl }
+
+turn : (s : List ℕ) (f : ℕ) (first : Bool) (types : List ℕ) (at : ℕ) → zero < f → at < length s
+    → packetsFrom s f first types at ≡ onPiece s at types (λ now-types next. packetsFrom s (f - 1) false now-types next) (pieceAt s at first)
+unfolding packetsFrom
+turn s zero first types at h l = absurd (omega arith)
+turn s (suc f) first types at h l = let e : suc f - 1 ≡ f = omega arith in rw (e, lt-ltb at (length s) l)
+
+out : (s : List ℕ) (f : ℕ) (first : Bool) (types : List ℕ) (at : ℕ) → length s ≤ at → packetsFrom s f first types at ≡ none runsOut
+unfolding packetsFrom
+out s zero first types at h = refl
+out s (suc f) first types at h = rw (le-ltb at (length s) h)
+
+-- a first carrier so far, this packet, and what follows
+first-assoc : (found : Spot) (b : Bool) (at : ℕ) (later : Spot) → orFirst found (pick b (spot.At at) later) ≡ orFirst (orFirst found (pick b (spot.At at) spot.Nothing)) later
+first-assoc (spot.At o) b at later = refl
+first-assoc spot.Nothing true at later = refl
+first-assoc spot.Nothing false at later = refl
+
+module _ (s : List ℕ) (track field at : ℕ) (p : Progress) (types : List ℕ) (found : Spot) (l : Left s track field at p types found) where
+  pub on-out : length s ≤ at → run.Refused (ranOut (p .count) (length s)) ≡ runOf s track field
+  unfolding judge
+  on-out h = sym (l .same ∙ rw (out s (l .fuel) (eqb (p .count) 0) types at h))
+
+  module _ (h : at < length s) where
+    now-turn : runOf s track field
+        ≡ comesTo s track field p found (onPiece s at types (λ now-types next. packetsFrom s (l .fuel - 1) false now-types next) (pieceAt s at (eqb (p .count) 0)))
+    now-turn = l .same ∙ rw (turn s (l .fuel) (eqb (p .count) 0) types at (omega (arith, l .enough)) h)
+
+    pub on-refused : (r : Refusal) → pieceAt s at (eqb (p .count) 0) ≡ piece.Refused r → run.Refused r ≡ runOf s track field
+    unfolding judge
+    on-refused r e = sym (now-turn ∙ rw e)
+
+    module _ (x : Piece) (e : pieceAt s at (eqb (p .count) 0) ≡ piece.Whole x) (now-types : List ℕ) (t : now-types ≡ typesAfter s at x types) where
+      abbrev rest : Packets
+      rest = pick (eqb (x .role) 0xFB) (none closed) (packetsFrom s (l .fuel - 1) false now-types (at + x .len))
+
+      turned : runOf s track field
+          ≡ collect (onStep (λ q. judge (length s) q (rest .list) (rest .end)) (stepOf p x at (getD now-types (x .track) 0) (ltb (at + x .len) (length s))))
+          (orFirst found (pick (carriesPiece track field x) (spot.At at) (firstOf track field (rest .list))))
+      unfolding judge firstOf
+      turned = now-turn ∙ rw (e, ← t)
+
+      pub on-step-refused : (r : Refusal) → stepOf p x at (getD now-types (x .track) 0) (ltb (at + x .len) (length s)) ≡ step.Refused r → run.Refused r ≡ runOf s track field
+      on-step-refused r f = sym (turned ∙ rw f)
+
+      pub on-ended : (n : ℕ) → stepOf p x at (getD now-types (x .track) 0) (ltb (at + x .len) (length s)) ≡ step.Ended n
+          → run.Passed (record { count = n; first = orFirst found (firstHere track field x at) }) ≡ runOf s track field
+      unfolding firstOf
+      on-ended n f = sym (turned ∙ rw (f, step-ended p x at (getD now-types (x .track) 0) (ltb (at + x .len) (length s)) n f))
+
+      pub on-next : (q : Progress) → stepOf p x at (getD now-types (x .track) 0) (ltb (at + x .len) (length s)) ≡ step.Next q
+          → Left s track field (at + x .len) q now-types (orFirst found (firstHere track field x at))
+      unfolding after
+      on-next q f =
+          let n = step-next p x at (getD now-types (x .track) 0) (ltb (at + x .len) (length s)) q f in
+          let w = told s at (eqb (p .count) 0) x e in
+          let k : eqb (q .count) 0 ≡ false = rw (← (n .1)) (ne-eqb (p .count + 1) 0 (λ z. omega arith)) in
+          record {
+            fuel = l .fuel - 1;
+            enough = omega (arith, l .enough, w .cut .least, w .cut .within);
+            same = turned ∙ rw (f, n .0, k, first-assoc found (carriesPiece track field x) at (firstOf track field (packetsFrom s (l .fuel - 1) false now-types (at + x .len) .list))) }
