@@ -1,7 +1,7 @@
--- The bench reading of Br: 0.5 is 500,000 millionths, and the float is 0.5, whose bits are 3FE0000000000000; alone, and in a text.
-use Prim.Native.Nat.{ℕ}
+-- The bench reading of Br: 0.5 is 500,000 millionths, and the float is 0.5, whose bits are 3FE0000000000000; other rates' bits; a whole text.
+use Prim.Native.Nat.{ℕ, _^_}
 use mathlib.Core.Path.{_≡_, refl}
-use mathlib.Core.List.{List, [], _∷_}
+use mathlib.Core.List.{List, [], _∷_, map}
 use lib.Ieee as Ieee
 use lib.Ieee.{binary64}
 use Rattle.number.specs.Number.{be}
@@ -10,7 +10,7 @@ use Rattle.scan.specs.Scan.{run, runEnd, alnum, other}
 use Rattle.decimal.specs.Decimal.{digits, numeralOf, fractionOf, wholeOf, rateOf}
 use Rattle.decimal.specs.declared.Amount.the-variants.{Of}
 use Rattle.parameter.specs.Table.{table, rowAt, otherRow, rowFor, rowOf}
-use Rattle.parameter.specs.Parameters.{amountOf, given, numberOf, millionths, valueOf, lacking, parametersOf}
+use Rattle.parameter.specs.Parameters.{amountOf, given, wanting, numberOf, millionths, valueOf, lacking, parametersOf}
 use Rattle.mpeg.specs.Lines.{labelAt, linesFrom, linesAt}
 use Rattle.mpeg.specs.Read.{taken, judge, answerOf, readOf}
 use Rattle.parameter.specs.declared.ParameterValue.the-variants.{Whole, Rate}
@@ -20,9 +20,11 @@ pub half : rateOf (0x30 ∷ 0x2E ∷ 0x35 ∷ []) ≡ Of 500000
 unfolding rateOf numeralOf fractionOf digits run runEnd other
 half = refl
 
-pub half-bits : Ieee.toBits binary64 (millionths 500000) ≡ 0x3FE0000000000000
+-- 0.5; 9007199254.740992, the largest; 0; 0.000001; 50000000; 0.123456
+pub bits : map (λ (n : ℕ). Ieee.toBits binary64 (millionths n)) (500000 ∷ 2 ^ 53 ∷ 0 ∷ 1 ∷ 50000000000000 ∷ 123456 ∷ [])
+    ≡ 0x3FE0000000000000 ∷ 0x4200C6F7A0B5ED8D ∷ 0 ∷ 0x3EB0C6F7A0B5ED8D ∷ 0x4187D78400000000 ∷ 0x3FBF9ACFFA7EB6BF ∷ []
 unfolding millionths Ieee.toBits Ieee.div Ieee.ofInt Ieee.round
-half-bits = refl
+bits = refl
 
 -- every parameter that must be given, and a line that is passed over
 abbrev pub text : List ℕ
@@ -59,5 +61,5 @@ pub whole-text : readOf text
       cbpg = Whole 0;
       ar = Whole 0;
     })
-unfolding readOf textOk judge taken answerOf linesAt linesFrom labelAt lacking parametersOf valueOf numberOf given amountOf table rowAt otherRow rowFor rowOf rateOf wholeOf numeralOf fractionOf digits run runEnd alnum other be
+unfolding readOf textOk judge taken answerOf linesAt linesFrom labelAt lacking parametersOf valueOf numberOf given wanting amountOf table rowAt otherRow rowFor rowOf rateOf wholeOf numeralOf fractionOf digits run runEnd alnum other be
 whole-text = refl

@@ -1,6 +1,5 @@
 -- The lines judged in their order, and the answer read off (01, "MPEG auxiliary text").
-use Prim.Native.Nat.{ℕ, _+_, _-_, _≤_}
-use mathlib.Core.Path.{_≡_}
+use Prim.Native.Nat.{ℕ, _+_, _-_}
 use mathlib.Core.List.{List}
 use lib.ListN.{length, getD, set, take, replicate}
 use lib.Dec.{ltb, eqb}
@@ -46,14 +45,6 @@ unfoldable pub judge : List ℕ → Lines → Judged
 judge slots done = fine slots
 judge slots (malformed p) = bad 26 p slots
 judge slots (line p k v rest) = after (λ next. judge next rest) (taken slots p k v .slots) (taken slots p k v .verdict)
-
--- what a function gives and leaves is what was judged
-abbrev pub Agrees : Judged → Verdict → List ℕ → Type 0
-Agrees j verdict slots = (verdict ≡ j .verdict) × (slots ≡ j .slots)
-
--- a place from which on the lines are judged as from another: none between them counts
-abbrev pub Skipped : List ℕ → ℕ → ℕ → Type 0
-Skipped s from at = (from ≤ at) × (at ≤ length s) × ((slots : List ℕ) → judge slots (linesAt s from) ≡ judge slots (linesAt s at))
 
 -- at the end 27, or every parameter
 unfoldable pub answerOf : List ℕ → MpegAnswer

@@ -8,7 +8,8 @@ ghost use lib.ListN.{length, getD};
 ghost use lib.Dec.{eqb};
 ghost use Rattle.parameter.specs.Table.{rowOf};
 ghost use Rattle.mpeg.specs.Lines.{labelAt, valueThen, linesAt};
-ghost use Rattle.mpeg.specs.Read.{Agrees, Skipped, taken, judge, answerOf, readOf};
+ghost use Rattle.mpeg.specs.Read.{taken, judge, answerOf, readOf};
+ghost use Rattle.mpeg.specs.Steps.{Agrees, Skipped};
 
 pub enum MpegAnswer {
     Given(Parameters),
@@ -82,7 +83,8 @@ fn label_at(s: &[u8], at: usize) -> Label
     Label::Broken
 }
 
-// Past the lines, from a place on, whose identifiers are unknown: so the two functions below take turns once for each parameter, not for each line.
+// Past the lines, from a place on, whose identifiers are unknown. So the two functions below take turns once a parameter and not once a line:
+// a parameter's second turn is refused, and a text of any length needs no deep stack.
 fn skip(s: &[u8], from: usize) -> usize
     requires { ⌜ from ≤ length (now s) ⌝ }
     ensures { λ r. ⌜ Skipped (now (s .entry)) from r ⌝ }

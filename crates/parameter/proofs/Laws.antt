@@ -11,8 +11,8 @@ use Rattle.plate.specs.Choice.{pick}
 use Rattle.decimal.specs.Decimal.{wholeOf, rateOf}
 use Rattle.decimal.specs.declared.Amount.the-variants.{Of}
 use Rattle.decimal.proofs.Laws.{whole-lt, rate-most}
-use Rattle.parameter.specs.Table.{rowAt, required, rate, least, most}
-use Rattle.parameter.specs.Parameters.{amountOf, given, numberOf, lacking}
+use Rattle.parameter.specs.Table.{rowAt, rate, least, most}
+use Rattle.parameter.specs.Parameters.{amountOf, given, wanting, numberOf, lacking}
 use Rattle.parameter.specs.declared.Row.{Row}
 
 -- a line's number has room for one more
@@ -43,9 +43,7 @@ number-most r slot = go (given r slot) refl
     go true e = given-some r slot e .1
     go false e = omega arith
 
-pub lacking-turn : (slots : List ℕ) (k : ℕ) → 0 < k
-    → lacking slots k
-    ≡ pick (required (rowAt (k - 1))) (pick (given (rowAt (k - 1)) (getD slots (k - 1) 0)) (lacking slots (k - 1)) true) (lacking slots (k - 1))
+pub lacking-turn : (slots : List ℕ) (k : ℕ) → 0 < k → lacking slots k ≡ pick (wanting (rowAt (k - 1)) (getD slots (k - 1) 0)) true (lacking slots (k - 1))
 unfolding lacking
 lacking-turn slots zero h = absurd (omega arith)
 lacking-turn slots (suc n) h = let e : suc n - 1 ≡ n = omega arith in rw e

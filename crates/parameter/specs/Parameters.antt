@@ -37,10 +37,14 @@ millionths n = Ieee.div binary64 (Ieee.ofInt binary64 (pos n)) (Ieee.ofInt binar
 unfoldable pub valueOf : Row → ℕ → ParameterValue
 valueOf r slot = pick (rate r) (Rate (millionths (numberOf r slot))) (Whole (numberOf r slot))
 
--- whether one of the first n rows is required and not given
+-- required and not given
+unfoldable pub wanting : Row → ℕ → Bool
+wanting r slot = pick (required r) (pick (given r slot) false true) false
+
+-- whether one of the first n is
 unfoldable pub lacking : List ℕ → ℕ → Bool
 lacking slots zero = false
-lacking slots (suc n) = pick (required (rowAt n)) (pick (given (rowAt n) (getD slots n 0)) (lacking slots n) true) (lacking slots n)
+lacking slots (suc n) = pick (wanting (rowAt n) (getD slots n 0)) true (lacking slots n)
 
 abbrev pub valueAt : List ℕ → ℕ → ParameterValue
 valueAt slots k = valueOf (rowAt k) (getD slots k 0)

@@ -3,7 +3,7 @@
 use decimal::Amount;
 ghost use mathlib.Core.Path.{_≡_};
 ghost use Rattle.parameter.specs.Table.{rowAt, rowFor};
-ghost use Rattle.parameter.specs.Parameters.{amountOf, given, numberOf, valueOf, lacking, parametersOf};
+ghost use Rattle.parameter.specs.Parameters.{amountOf, given, wanting, numberOf, valueOf, lacking, parametersOf};
 
 // A row of the table: the identifier's bytes as a number, whether it must be given, whether it is a rate, and its first and last allowed value.
 struct Row(u64, bool, bool, u64, u64);
@@ -129,24 +129,36 @@ fn value_of(k: usize, slot: u64) -> ParameterValue
     ParameterValue::Whole(n as u32)
 }
 
-// Whether a required parameter is not given.
+// Whether a row's parameter must be given and is not.
+fn is_wanting(k: usize, slot: u64) -> bool
+    ensures { λ r. ⌜ r ≡ wanting (rowAt k) slot ⌝ }
+{
+    let r = row_at(k);
+    let required = r.1;
+    if required {
+        if is_given(k, slot) {
+            return false;
+        }
+        return true;
+    }
+    false
+}
+
+// Whether any parameter must be given and is not.
 pub fn is_lacking(slots: &[u64; 14]) -> bool
     ensures { λ r. ⌜ r ≡ lacking (now (slots .entry)) 14 ⌝ }
 {
     let mut k: usize = 14;
     while 0 < k {
         k -= 1;
-        let r = row_at(k);
-        let required = r.1;
-        if required {
-            if is_given(k, slots[k]) {} else {
-                return true;
-            }
+        if is_wanting(k, slots[k]) {
+            return true;
         }
     }
     false
 }
 
+// Every parameter, in the table's order.
 pub fn parameters_of(slots: &[u64; 14]) -> Parameters
     ensures { λ r. ⌜ r ≡ parametersOf (now (slots .entry)) ⌝ }
 {

@@ -19,39 +19,25 @@ loop-holds c = search needs
 sub-k : tie.Need-sub-k Inv-loop μ-loop
 sub-k c = search needs
 
-row-at-requires : tie.Need-row-at-requires Inv-loop μ-loop
-row-at-requires c κs = search needs
+mul-is-wanting : tie.Need-mul-is-wanting Inv-loop μ-loop
+mul-is-wanting c = search needs
 
-mul-is-given : tie.Need-mul-is-given Inv-loop μ-loop
-mul-is-given c = search needs
+element-copy-out-is-wanting : tie.Need-element-copy-out-is-wanting Inv-loop μ-loop
+element-copy-out-is-wanting c = search needs
 
-element-copy-out-is-given : tie.Need-element-copy-out-is-given Inv-loop μ-loop
-element-copy-out-is-given c = search needs
+is-wanting-requires : tie.Need-is-wanting-requires Inv-loop μ-loop
+is-wanting-requires c κs = search needs
 
-is-given-requires : tie.Need-is-given-requires Inv-loop μ-loop
-is-given-requires c κs = search needs
+returns : tie.Need-returns Inv-loop μ-loop
+returns c =
+    sym (c .before .before .before .before .loop .inv .1 ∙ lacking-turn _ _ (c .before .before .before .loop-test .taken) ∙ simp (sym (c .before .is-wanting .ensures) ∙ c .if1 .taken))
 
 loop-less : tie.Need-loop-less Inv-loop μ-loop
 loop-less c = search needs
 
 loop-again : tie.Need-loop-again Inv-loop μ-loop
-loop-again c = (
-  omega arith,
-  c .before .before .before .before .before .before .loop .inv .1 ∙ lacking-turn _ _ (c .before .before .before .before .before .loop-test .taken)
-      ∙ simp (rw (c .before .before .before .before .row-at .ensures) at (c .before .before .before .if1 .taken), sym (c .before .is-given .ensures) ∙ c .if2 .taken),
-)
-
-returns : tie.Need-returns Inv-loop μ-loop
-returns c =
-    sym (c .before .before .before .before .before .before .loop .inv .1 ∙ lacking-turn _ _ (c .before .before .before .before .before .loop-test .taken)
-    ∙ simp (rw (c .before .before .before .before .row-at .ensures) at (c .before .before .before .if1 .taken), sym (c .before .is-given .ensures) ∙ c .if2 .left))
-
-loop-less-2 : tie.Need-loop-less-2 Inv-loop μ-loop
-loop-less-2 c = search needs
-
-loop-again-2 : tie.Need-loop-again-2 Inv-loop μ-loop
-loop-again-2 c =
-    (omega arith, c .before .before .before .loop .inv .1 ∙ lacking-turn _ _ (c .before .before .loop-test .taken) ∙ simp (rw (c .before .row-at .ensures) at (c .if1 .left)))
+loop-again c =
+    (omega arith, c .before .before .before .before .loop .inv .1 ∙ lacking-turn _ _ (c .before .before .before .loop-test .taken) ∙ simp (sym (c .before .is-wanting .ensures) ∙ c .if1 .left))
 
 returns-2 : tie.Need-returns-2 Inv-loop μ-loop
 unfolding lacking
@@ -65,13 +51,10 @@ is-lacking-spec =
     μ-loop
     loop-holds
     sub-k
-    row-at-requires
-    mul-is-given
-    element-copy-out-is-given
-    is-given-requires
+    mul-is-wanting
+    element-copy-out-is-wanting
+    is-wanting-requires
+    returns
     loop-less
     loop-again
-    returns
-    loop-less-2
-    loop-again-2
     returns-2)
