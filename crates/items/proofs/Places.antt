@@ -1,15 +1,15 @@
 -- The place of a section's fault stands in the section.
 use Prim.Native.Nat.{ℕ, _+_, _≤_}
-use mathlib.Core.Path.{_≡_, refl, sym, _∙_, ap}
+use mathlib.Core.Path.{_≡_, sym, ap}
 use mathlib.Core.Bool.{Bool, true, false}
-use mathlib.Core.List.{List, [], _∷_, _++_}
+use mathlib.Core.List.{List, [], _∷_}
 use native.Mathlib.Omega.{arith}
 use lib.ListN.{length, drop, length-append}
 use lib.Dec.{eqb}
 use Rattle.plate.specs.Choice.{pick}
 use Rattle.plate.specs.declared.Refusal.{Refusal}
 use Rattle.items.specs.Items.{Item, sectionOf, sizeOf, bytesOf}
-use Rattle.items.specs.Judge.{bad, andThen, formOf, isKnown, faultOf, countsAs, has, onItem, judgeItems, ending, judgeParts, verdictOf}
+use Rattle.items.specs.Judge.{bad, andThen, formOf, isKnown, faultOf, countsAs, has, judgeItems, ending, verdictOf}
 use Rattle.items.specs.declared.Section.{Section}
 use Rattle.items.specs.declared.Verdict.{Verdict}
 use Rattle.items.specs.declared.Verdict.the-variants.{Accepted, Refused}

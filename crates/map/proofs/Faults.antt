@@ -1,5 +1,5 @@
 -- The place of a map's fault stands in its packet.
-use Prim.Native.Nat.{ℕ, _+_, _-_, _≤_}
+use Prim.Native.Nat.{ℕ, _+_, _≤_}
 use mathlib.Core.Path.{_≡_, refl}
 use mathlib.Core.Bool.{Bool, true, false}
 use mathlib.Core.List.{List}
@@ -11,9 +11,8 @@ use Rattle.plate.specs.Choice.{pick}
 use Rattle.plate.specs.declared.Refusal.{Refusal}
 use Rattle.items.specs.Judge.{bad, verdictOf}
 use Rattle.items.specs.declared.Section.the-variants as section
-use Rattle.items.specs.declared.Verdict.{Verdict}
-use Rattle.items.specs.declared.Verdict.the-variants.{Accepted, Refused}
-use Rattle.items.proofs.Places.{at-place, not-refused, either-part}
+use Rattle.items.specs.declared.Verdict.the-variants.{Refused}
+use Rattle.items.proofs.Places.{at-place, either-part}
 use Rattle.items.proofs.Places as items
 use Rattle.track_section.specs.Tracks.{tracksVerdict}
 use Rattle.track_section.proofs.Faults as tracks

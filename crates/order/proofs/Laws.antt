@@ -1,6 +1,6 @@
 -- What a step tells of its piece: only EOS ends a stream, and after any other the progress is one packet further.
 use Prim.Native.Nat.{ℕ, _+_}
-use mathlib.Core.Path.{_≡_, refl, sym, _∙_}
+use mathlib.Core.Path.{_≡_, refl}
 use mathlib.Core.Bool.{Bool, true, false}
 use native.Mathlib.Omega.{arith}
 use lib.Dec.{eqb}
@@ -9,7 +9,6 @@ use Rattle.plate.specs.Plate.{refusal}
 use Rattle.piece.specs.declared.Piece.{Piece}
 use Rattle.order.specs.Order.{misplaced, overdue, unmapped, after, ending, stepOf}
 use Rattle.order.specs.declared.Progress.{Progress}
-use Rattle.order.specs.declared.Step.{Step}
 use Rattle.order.specs.declared.Step.the-variants.{Next, Ended, Refused}
 
 module _ (p : Progress) (x : Piece) (at listed : ℕ) (more : Bool) where

@@ -41,7 +41,8 @@ after p role =
       since = pick (eqb role 0xBC) 0 (p .since + 1);
       flt = eitherRole (p .flt) role 0xFC;
       due = falls (p .count) role;
-      umf = eitherRole (p .umf) role 0xFD }
+      umf = eitherRole (p .umf) role 0xFD;
+    }
 
 -- at an EOS: 18 where bytes follow it, 21 where no UMF came before it, else the number of packets
 unfoldable pub ending : Progress → ℕ → Bool → Step

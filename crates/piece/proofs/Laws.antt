@@ -11,7 +11,7 @@ use borrow.Author.Tests.{ltb-false}
 use Rattle.plate.specs.Choice.{pick}
 use Rattle.plate.specs.Plate.{refusal}
 use Rattle.plate.specs.declared.Refusal.{Refusal}
-use Rattle.number.specs.Number.{be, le}
+use Rattle.number.specs.Number.{le}
 use Rattle.packet.specs.Packet.{headerAt}
 use Rattle.packet.proofs.Laws.{whole}
 use Rattle.packet.specs.declared.PacketAnswer.{PacketAnswer}
@@ -27,7 +27,6 @@ use Rattle.media.specs.declared.MediaAnswer.{MediaAnswer}
 use Rattle.media.specs.declared.MediaAnswer.the-variants as media
 use Rattle.piece.specs.Piece.{plainPiece, ofMap, ofLocator, ofMedia, contentOf, opens, afterHeader, pieceAt}
 use Rattle.piece.specs.declared.Piece.{Piece}
-use Rattle.piece.specs.declared.PieceAnswer.{PieceAnswer}
 use Rattle.piece.specs.declared.PieceAnswer.the-variants.{Whole, Refused}
 use Rattle.locator.specs.declared.Locator.{Locator}
 use Rattle.packet.specs.declared.Packet.{Packet}

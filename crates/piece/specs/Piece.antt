@@ -19,7 +19,6 @@ use Rattle.locator.specs.declared.LocatorAnswer.the-variants as locator
 use Rattle.media.specs.Media.{preambleOf}
 use Rattle.media.specs.declared.MediaAnswer.{MediaAnswer}
 use Rattle.media.specs.declared.MediaAnswer.the-variants as media
-use Rattle.piece.specs.declared.Piece.{Piece}
 use Rattle.piece.specs.declared.PieceAnswer.{PieceAnswer}
 use Rattle.piece.specs.declared.PieceAnswer.the-variants.{Whole, Refused}
 

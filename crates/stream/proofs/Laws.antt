@@ -1,10 +1,10 @@
 -- One pass over a stream, a packet at a time: what is left to do from an offset on is the whole answer.
 use Prim.Native.Nat.{ℕ, zero, suc, _+_, _-_, _<_, _≤_}
 use mathlib.Core.Path.{_≡_, refl, sym, _∙_, ap}
-use mathlib.Core.List.{List, [], _∷_}
+use mathlib.Core.List.{List}
 use mathlib.Core.Bool.{Bool, true, false}
 use native.Mathlib.Omega.{arith}
-use lib.ListN.{length, getD, take, drop, replicate}
+use lib.ListN.{length, getD, replicate}
 use lib.Dec.{eqb, ltb}
 use borrow.Author.Tests.{lt-ltb, le-ltb, ne-eqb}
 use Rattle.plate.specs.Choice.{pick}
@@ -17,12 +17,15 @@ use Rattle.order.specs.Order.{started, after, stepOf}
 use Rattle.order.specs.declared.Progress.{Progress}
 use Rattle.order.specs.declared.Step.the-variants as step
 use Rattle.order.proofs.Laws.{step-next, step-ended}
-use Rattle.stream.specs.Stream.{Packets, runsOut, closed, stops, none, before, typesAfter, onPiece, packetsFrom, packets, ranOut, atEnd, onStep, judge, checkOf, carriesPiece, firstOf, orFirst, firstHere, collect, runOf}
+use Rattle.stream.specs.Stream.{Packets, runsOut, closed, none, typesAfter, onPiece, packetsFrom, packets, ranOut, onStep, judge, checkOf, carriesPiece, firstOf, orFirst, firstHere, collect, runOf, orNotThere, ifChecked, seekOf}
 use Rattle.stream.specs.declared.Spot.{Spot}
 use Rattle.stream.specs.declared.Spot.the-variants as spot
 use Rattle.stream.specs.declared.CheckAnswer.{CheckAnswer}
+use Rattle.stream.specs.declared.CheckAnswer.the-variants as check
+use Rattle.stream.specs.declared.SeekAnswer.the-variants as seek
 use Rattle.stream.specs.declared.Run.{Run}
 use Rattle.stream.specs.declared.Run.the-variants as run
+use Rattle.stream.specs.declared.Pass.{Pass}
 
 -- what the packets from an offset on come to, after some progress and a first carrier
 abbrev comesTo : List ℕ → ℕ → ℕ → Progress → Spot → Packets → Run
@@ -96,4 +99,49 @@ module _ (s : List ℕ) (track field at : ℕ) (p : Progress) (types : List ℕ)
           record {
             fuel = l .fuel - 1;
             enough = omega (arith, l .enough, w .cut .least, w .cut .within);
-            same = turned ∙ rw (f, n .0, k, first-assoc found (carriesPiece track field x) at (firstOf track field (packetsFrom s (l .fuel - 1) false now-types (at + x .len) .list))) }
+            same = turned ∙ rw (f, n .0, k, first-assoc found (carriesPiece track field x) at (firstOf track field (packetsFrom s (l .fuel - 1) false now-types (at + x .len) .list)));
+          }
+
+-- a step adds one packet, and one since the latest map at most
+pub next-bounds : (p : Progress) (x : Piece) (at listed : ℕ) (more : Bool) (q : Progress) → stepOf p x at listed more ≡ step.Next q
+    → (q .count ≡ p .count + 1) × (q .since ≤ p .since + 1)
+unfolding after
+next-bounds p x at listed more q f =
+    let n = step-next p x at listed more q f .1 in
+    (sym (ap (λ (r : Progress). r .count) n), rw (ap (λ (r : Progress). r .since) (sym n)) (go (eqb (x .role) 0xBC)))
+  where
+    go : (b : Bool) → pick b 0 (p .since + 1) ≤ p .since + 1
+    go true = omega arith
+    go false = omega arith
+
+-- what one pass says of check and seek
+module _ (s : List ℕ) (track field : ℕ) where
+  pub check-passed : (w : Pass) → runOf s track field ≡ run.Passed w → check.Packets (w .count) ≡ checkOf s
+  unfolding runOf
+  check-passed w = go (checkOf s)
+    where
+      go : (a : CheckAnswer) → collect a (firstOf track field (packets s .list)) ≡ run.Passed w → check.Packets (w .count) ≡ a
+      go (check.Packets n) e = let b : record { count = n; first = firstOf track field (packets s .list) } ≡ w = cc in ap check.Packets (sym (ap (λ (x : Pass). x .count) b))
+      go (check.Refused r) e = absurd (let z : _≡_ {A = ℕ} 0 1 = cc in omega arith)
+
+  pub check-refused : (r : Refusal) → runOf s track field ≡ run.Refused r → check.Refused r ≡ checkOf s
+  unfolding runOf
+  check-refused r = go (checkOf s)
+    where
+      go : (a : CheckAnswer) → collect a (firstOf track field (packets s .list)) ≡ run.Refused r → check.Refused r ≡ a
+      go (check.Packets n) e = absurd (let z : _≡_ {A = ℕ} 0 1 = cc in omega arith)
+      go (check.Refused q) e = cc
+
+  pub seek-refused : (r : Refusal) → runOf s track field ≡ run.Refused r → seek.Refused r ≡ seekOf s track field
+  unfolding seekOf
+  seek-refused r e = rw (← check-refused r e)
+
+  pub seek-passed : (w : Pass) → runOf s track field ≡ run.Passed w → orNotThere (w .first) ≡ seekOf s track field
+  unfolding runOf seekOf
+  seek-passed w = go (checkOf s)
+    where
+      go : (a : CheckAnswer) → collect a (firstOf track field (packets s .list)) ≡ run.Passed w → orNotThere (w .first) ≡ ifChecked a (orNotThere (firstOf track field (packets s .list)))
+      go (check.Packets n) e =
+          let b : record { count = n; first = firstOf track field (packets s .list) } ≡ w = cc in
+          sym (ap (λ (x : Pass). orNotThere (x .first)) b)
+      go (check.Refused r) e = absurd (let z : _≡_ {A = ℕ} 0 1 = cc in omega arith)

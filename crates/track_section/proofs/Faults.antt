@@ -1,6 +1,6 @@
 -- The place of a track section's fault stands in the section.
 use Prim.Native.Nat.{ℕ, _+_, _≤_}
-use mathlib.Core.Path.{_≡_, refl, sym, _∙_, ap}
+use mathlib.Core.Path.{_≡_}
 use mathlib.Core.Bool.{Bool, true, false}
 use mathlib.Core.List.{List, [], _∷_}
 use native.Mathlib.Omega.{arith}
@@ -11,7 +11,7 @@ use Rattle.plate.specs.declared.Refusal.{Refusal}
 use Rattle.items.specs.Judge.{bad, andThen, has, verdictOf}
 use Rattle.items.specs.declared.Section.the-variants as section
 use Rattle.items.specs.declared.Verdict.{Verdict}
-use Rattle.items.specs.declared.Verdict.the-variants.{Accepted, Refused}
+use Rattle.items.specs.declared.Verdict.the-variants.{Refused}
 use Rattle.items.proofs.Places.{at-place, not-refused, either-part}
 use Rattle.items.proofs.Places as items
 use Rattle.track_section.specs.Tracks.{Description, End, over, short, hangs, tracksOf, sizeOf, onBytes, trackOver, trackVerdict, endVerdict, judgeTracks, tracksVerdict}

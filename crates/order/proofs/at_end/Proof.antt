@@ -1,12 +1,6 @@
 use borrow.Author.Needs.{needs}
 use Rattle.order.proofs.at_end.Statement.{statement}
 use Rattle.order.proofs.at_end.Tie as tie
-use Rattle.order.proofs.at_end.Reads as reads
-use Rattle.order.proofs.at_end.Lts as lts
-use Rattle.order.proofs.refused.Reads as refused-reads
-use borrow.Author.Needs.{needs}
-use native.Mathlib.Omega.{arith}
-use borrow.Author.Tests.{eq-eqb, ne-eqb}
 use Rattle.order.specs.Order.{ending}
 
 refused-requires : tie.Need-refused-requires

@@ -1,10 +1,5 @@
 use Rattle.order.proofs.falls_due.Statement.{statement}
 use Rattle.order.proofs.falls_due.Tie as tie
-use Rattle.order.proofs.falls_due.Reads as reads
-use Rattle.order.proofs.falls_due.Lts as lts
-use borrow.Author.Needs.{needs}
-use native.Mathlib.Omega.{arith}
-use Rattle.plate.proofs.Tests.{tests}
 use borrow.Author.Tests.{eq-eqb, ne-eqb}
 use Rattle.order.specs.Order.{falls}
 

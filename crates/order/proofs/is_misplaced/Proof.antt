@@ -1,11 +1,5 @@
 use Rattle.order.proofs.is_misplaced.Statement.{statement}
 use Rattle.order.proofs.is_misplaced.Tie as tie
-use Rattle.order.proofs.is_misplaced.Reads as reads
-use Rattle.order.proofs.is_misplaced.Lts as lts
-use borrow.Author.Needs.{needs}
-use native.Mathlib.Omega.{arith}
-use Rattle.plate.proofs.Tests.{tests}
-use borrow.Author.Tests.{eq-eqb, ne-eqb}
 use Rattle.order.specs.Order.{misplaced}
 
 returns : tie.Need-returns

@@ -1,12 +1,6 @@
 use borrow.Author.Needs.{needs}
 use Rattle.order.proofs.is_unmapped.Statement.{statement}
 use Rattle.order.proofs.is_unmapped.Tie as tie
-use Rattle.order.proofs.is_unmapped.Reads as reads
-use Rattle.order.proofs.is_unmapped.Lts as lts
-use Rattle.media_type.proofs.is_known.Reads as is-known-reads
-use borrow.Author.Needs.{needs}
-use native.Mathlib.Omega.{arith}
-use Rattle.plate.proofs.Tests.{tests}
 use borrow.Author.Tests.{eq-eqb, ne-eqb}
 use Rattle.order.specs.Order.{unmapped}
 

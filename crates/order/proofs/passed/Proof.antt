@@ -1,13 +1,6 @@
 use borrow.Author.Needs.{needs}
 use Rattle.order.proofs.passed.Statement.{statement}
 use Rattle.order.proofs.passed.Tie as tie
-use Rattle.order.proofs.passed.Reads as reads
-use Rattle.order.proofs.passed.Lts as lts
-use Rattle.order.proofs.falls_due.Reads as falls-due-reads
-use Rattle.order.proofs.or_role.Reads as or-role-reads
-use borrow.Author.Needs.{needs}
-use native.Mathlib.Omega.{arith}
-use mathlib.Core.Path.{_≡_, sym, _∙_, refl}
 use borrow.Author.Tests.{eq-eqb, ne-eqb}
 use Rattle.order.specs.Order.{after}
 

@@ -1,17 +1,7 @@
 use borrow.Author.Needs.{needs}
 use Rattle.order.proofs.take_step.Statement.{statement}
 use Rattle.order.proofs.take_step.Tie as tie
-use Rattle.order.proofs.take_step.Reads as reads
-use Rattle.order.proofs.take_step.Lts as lts
-use Rattle.order.proofs.at_end.Reads as at-end-reads
-use Rattle.order.proofs.is_misplaced.Reads as is-misplaced-reads
-use Rattle.order.proofs.is_overdue.Reads as is-overdue-reads
-use Rattle.order.proofs.is_unmapped.Reads as is-unmapped-reads
-use Rattle.order.proofs.passed.Reads as passed-reads
-use Rattle.order.proofs.refused.Reads as refused-reads
-use borrow.Author.Needs.{needs}
-use native.Mathlib.Omega.{arith}
-use mathlib.Core.Path.{_≡_, sym, _∙_, refl}
+use mathlib.Core.Path.{sym, _∙_}
 use borrow.Author.Tests.{eq-eqb, ne-eqb}
 use Rattle.order.specs.Order.{stepOf}
 
@@ -53,9 +43,12 @@ at-end-requires c κs = search needs
 returns-4 : tie.Need-returns-4
 unfolding stepOf
 returns-4 c =
-    rw
-    (sym (c .before .before .before .before .before .before .before .is-misplaced .ensures) ∙ c .before .before .before .before .before .before .if1 .left, sym (c .before .before .before .before .before .is-overdue .ensures) ∙ c .before .before .before .before .if2 .left, sym (c .before .before .before .is-unmapped .ensures) ∙ c .before .before .if3 .left,
-    eq-eqb _ _ (c .before .if4 .taken)) (c .at-end .ensures)
+    rw (
+      sym (c .before .before .before .before .before .before .before .is-misplaced .ensures) ∙ c .before .before .before .before .before .before .if1 .left,
+      sym (c .before .before .before .before .before .is-overdue .ensures) ∙ c .before .before .before .before .if2 .left,
+      sym (c .before .before .before .is-unmapped .ensures) ∙ c .before .before .if3 .left,
+      eq-eqb _ _ (c .before .if4 .taken),
+    ) (c .at-end .ensures)
 
 passed-requires : tie.Need-passed-requires
 passed-requires c κs = search needs
@@ -63,9 +56,13 @@ passed-requires c κs = search needs
 returns-5 : tie.Need-returns-5
 unfolding stepOf
 returns-5 c =
-    rw
-    (sym (c .before .before .before .before .before .before .before .is-misplaced .ensures) ∙ c .before .before .before .before .before .before .if1 .left, sym (c .before .before .before .before .before .is-overdue .ensures) ∙ c .before .before .before .before .if2 .left, sym (c .before .before .before .is-unmapped .ensures) ∙ c .before .before .if3 .left,
-    ne-eqb _ _ (c .before .if4 .left), c .passed .ensures)
+    rw (
+      sym (c .before .before .before .before .before .before .before .is-misplaced .ensures) ∙ c .before .before .before .before .before .before .if1 .left,
+      sym (c .before .before .before .before .before .is-overdue .ensures) ∙ c .before .before .before .before .if2 .left,
+      sym (c .before .before .before .is-unmapped .ensures) ∙ c .before .before .if3 .left,
+      ne-eqb _ _ (c .before .if4 .left),
+      c .passed .ensures,
+    )
 
 pub take-step-spec : {M : Type 1} → statement M
 take-step-spec =

@@ -1,15 +1,6 @@
 use borrow.Author.Needs.{needs}
 use Rattle.piece.proofs.content.Statement.{statement}
 use Rattle.piece.proofs.content.Tie as tie
-use Rattle.piece.proofs.content.Reads as reads
-use Rattle.piece.proofs.content.Lts as lts
-use Rattle.piece.proofs.locator_content.Reads as locator-content-reads
-use Rattle.piece.proofs.map_content.Reads as map-content-reads
-use Rattle.piece.proofs.media_content.Reads as media-content-reads
-use Rattle.piece.proofs.plain.Reads as plain-reads
-use borrow.Author.Needs.{needs}
-use native.Mathlib.Omega.{arith}
-use mathlib.Core.Path.{_≡_, sym, _∙_, refl}
 use borrow.Author.Tests.{ne-eqb}
 use Rattle.piece.specs.Piece.{contentOf}
 

@@ -1,14 +1,8 @@
 use borrow.Author.Needs.{needs}
 use Rattle.piece.proofs.map_content.Statement.{statement}
 use Rattle.piece.proofs.map_content.Tie as tie
-use Rattle.piece.proofs.map_content.Reads as reads
-use Rattle.piece.proofs.map_content.Lts as lts
-use Rattle.map.proofs.verdict_of.Reads as verdict-of-reads
-use Rattle.piece.proofs.plain.Reads as plain-reads
-use Rattle.piece.proofs.refused_at.Reads as refused-at-reads
-use borrow.Author.Needs.{needs}
 use native.Mathlib.Omega.{arith}
-use mathlib.Core.Path.{_≡_, sym, _∙_, refl}
+use mathlib.Core.Path.{sym, _∙_}
 use Rattle.map.proofs.Faults.{place-within}
 use Rattle.piece.specs.Piece.{contentOf}
 

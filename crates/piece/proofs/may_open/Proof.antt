@@ -1,10 +1,5 @@
 use Rattle.piece.proofs.may_open.Statement.{statement}
 use Rattle.piece.proofs.may_open.Tie as tie
-use Rattle.piece.proofs.may_open.Reads as reads
-use Rattle.piece.proofs.may_open.Lts as lts
-use borrow.Author.Needs.{needs}
-use native.Mathlib.Omega.{arith}
-use mathlib.Core.Path.{_≡_, sym, _∙_, refl}
 use Rattle.piece.specs.Piece.{opens}
 
 returns : tie.Need-returns

@@ -1,13 +1,8 @@
 use borrow.Author.Needs.{needs}
 use Rattle.piece.proofs.media_content.Statement.{statement}
 use Rattle.piece.proofs.media_content.Tie as tie
-use Rattle.piece.proofs.media_content.Reads as reads
-use Rattle.piece.proofs.media_content.Lts as lts
-use Rattle.media.proofs.preamble.Reads as preamble-reads
-use Rattle.piece.proofs.refused_at.Reads as refused-at-reads
-use borrow.Author.Needs.{needs}
 use native.Mathlib.Omega.{arith}
-use mathlib.Core.Path.{_≡_, sym, _∙_, refl}
+use mathlib.Core.Path.{sym, _∙_}
 use Rattle.piece.specs.Piece.{contentOf}
 use Rattle.piece.proofs.Laws.{media-place}
 

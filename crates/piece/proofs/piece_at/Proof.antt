@@ -1,15 +1,8 @@
 use borrow.Author.Needs.{needs}
 use Rattle.piece.proofs.piece_at.Statement.{statement}
 use Rattle.piece.proofs.piece_at.Tie as tie
-use Rattle.piece.proofs.piece_at.Reads as reads
-use Rattle.piece.proofs.piece_at.Lts as lts
-use Rattle.packet.proofs.header.Reads as header-reads
-use Rattle.piece.proofs.content.Reads as content-reads
-use Rattle.piece.proofs.may_open.Reads as may-open-reads
-use Rattle.plate.proofs.refuse.Reads as refuse-reads
-use borrow.Author.Needs.{needs}
 use native.Mathlib.Omega.{arith}
-use mathlib.Core.Path.{_≡_, sym, _∙_, refl}
+use mathlib.Core.Path.{sym, _∙_}
 use native.Mathlib.Nat.{add-sub-cancel-left}
 use Rattle.piece.specs.Piece.{pieceAt}
 use Rattle.piece.proofs.Laws.{cut}

@@ -1,20 +1,17 @@
 use Rattle.stream.proofs.one_pass.Statement.{statement}
 use Rattle.stream.proofs.one_pass.Tie as tie
-use Rattle.stream.proofs.one_pass.Reads as reads
-use Rattle.stream.proofs.one_pass.Lts as lts
-use Rattle.map.proofs.types_of.Reads as types-of-reads
-use Rattle.number.proofs.wide.Reads as wide-reads
-use Rattle.order.proofs.start.Reads as start-reads
-use Rattle.order.proofs.take_step.Reads as take-step-reads
-use Rattle.piece.proofs.piece_at.Reads as piece-at-reads
-use Rattle.stream.proofs.first_with.Reads as first-with-reads
-use Rattle.stream.proofs.run_out.Reads as run-out-reads
 use borrow.Author.Needs.{needs}
 use native.Mathlib.Omega.{arith}
-use mathlib.Core.Path.{_≡_, sym, _∙_, refl}
+use mathlib.Core.Path.{_≡_, sym, _∙_, ap}
+use borrow.Author.Tests.{eq-eqb, ne-eqb}
 use Prim.Native.Nat.{_≤_, _-_}
+use mathlib.Core.Logic.{⊎-elim}
+use native.Mathlib.Nat.{add-sub-cancel-left}
 use lib.ListN.{length}
-use Rattle.stream.proofs.Laws.{Left, begin, on-out, on-refused, on-step-refused, on-ended, on-next}
+use Rattle.track_section.specs.declared.Types.{Types}
+use Rattle.piece.proofs.Laws.{told}
+use Rattle.stream.specs.Stream.{typesAfter}
+use Rattle.stream.proofs.Laws.{Left, begin, on-out, on-refused, on-step-refused, on-ended, on-next, next-bounds}
 
 abbrev Inv-loop : tie.InvT-loop
 Inv-loop s track field at₀ p₀ types₀ first₀ at p types first = (at ≤ length s) × (p .count ≤ at) × (p .since ≤ at) × Left s track field at p (types .kinds) first
@@ -26,7 +23,7 @@ start-requires : tie.Need-start-requires Inv-loop μ-loop
 start-requires c κs = search needs
 
 loop-holds : tie.Need-loop-holds Inv-loop μ-loop
-loop-holds c = search needs
+loop-holds c = rw (c .start .ensures) (omega arith, omega arith, omega arith, begin _ _ _)
 
 piece-at-requires : tie.Need-piece-at-requires Inv-loop μ-loop
 piece-at-requires c κs = search needs
@@ -35,13 +32,13 @@ enum-known-r : tie.Need-enum-known-r Inv-loop μ-loop
 enum-known-r c = search needs
 
 returns : tie.Need-returns Inv-loop μ-loop
-returns c = search needs
+returns c = on-refused _ _ _ _ _ _ _ (c .before .before .before .before .before .before .loop .inv .3) (c .before .before .before .before .before .loop-test .taken) _ (sym (c .before .before .before .piece-at .ensures) ∙ c .before .r .given .1)
 
 enum-known-x : tie.Need-enum-known-x Inv-loop μ-loop
 enum-known-x c = search needs
 
 add-e : tie.Need-add-e Inv-loop μ-loop
-add-e c = search needs
+add-e c = let w = told _ _ _ _ (sym (c .before .before .before .before .piece-at .ensures) ∙ c .before .before .x .given .1) in omega (arith, w .cut .within)
 
 sub-types-of : tie.Need-sub-types-of Inv-loop μ-loop
 sub-types-of c = search needs
@@ -50,7 +47,7 @@ part-types-of-start : tie.Need-part-types-of-start Inv-loop μ-loop
 part-types-of-start c = search needs
 
 part-types-of-end : tie.Need-part-types-of-end Inv-loop μ-loop
-part-types-of-end c = search needs
+part-types-of-end c = let w = told _ _ _ _ (sym (c .before .before .before .before .before .piece-at .ensures) ∙ c .before .before .before .x .given .1) in omega (arith, w .cut .within)
 
 types-of-requires : tie.Need-types-of-requires Inv-loop μ-loop
 types-of-requires c κs = search needs
@@ -59,40 +56,61 @@ wide-requires : tie.Need-wide-requires Inv-loop μ-loop
 wide-requires c κs = search needs
 
 element-copy-out-listed : tie.Need-element-copy-out-listed Inv-loop μ-loop
-element-copy-out-listed c = search needs
+element-copy-out-listed c = let w = told _ _ _ _ (sym (c .before .before .before .before .before .before .piece-at .ensures) ∙ c .before .before .before .before .x .given .1) in omega (arith, w .track, c .wide .ensures)
 
 first-with-requires : tie.Need-first-with-requires Inv-loop μ-loop
 first-with-requires c κs = search needs
 
 take-step-requires : tie.Need-take-step-requires Inv-loop μ-loop
-take-step-requires c κs = search needs
+take-step-requires c κs = omega arith
 
 enum-known-r-2 : tie.Need-enum-known-r-2 Inv-loop μ-loop
 enum-known-r-2 c = search needs
 
 returns-2 : tie.Need-returns-2 Inv-loop μ-loop
-returns-2 c = search needs
+returns-2 c =
+    let a = c .before .before .before .before .before .before .before .before .before .before .before .before .before .before .before .before .before .before .args in let l = c .before .before .before .before .before .before .before .before .before .before .before .before .before .before .before .loop in let x = c .before .before .before .before .before .before .before .before .before .before .x .given .0 .0 in
+    let t : c .before .before .before .before .before .before .before .if1 .types .kinds ≡ typesAfter (a .s .now) (l .at) x (l .types .kinds) =
+    ⊎-elim (λ w. rw (eq-eqb _ _ (w .0 .taken)) (ap (λ (k : Types). k .kinds) (w .3) ∙ rw add-sub-cancel-left at (w .2 .ensures)))
+    (λ w. rw (ne-eqb _ _ (w .0 .left)) (ap (λ (k : Types). k .kinds) (w .1))) (c .before .before .before .before .before .before .before .if1 .came) in
+    let e = sym (c .before .before .before .before .before .before .before .before .before .before .before .before .piece-at .ensures) ∙ c .before .before .before .before .before .before .before .before .before .before .x .given .1 in
+    on-step-refused (a .s .now) (a .track) (a .field) (l .at) (l .p) (l .types .kinds) (l .first) (l .inv .3) (c .before .before .before .before .before .before .before .before .before .before .before .before .before .before .loop-test .taken) x e (c .before .before .before .before .before .before .before .if1 .types .kinds) t _ (sym (rw (c .before .before .before .before .before .before .wide .ensures) at (c .before .before .before .take-step .ensures)) ∙ c .before .r2 .given .1)
 
 enum-known-count : tie.Need-enum-known-count Inv-loop μ-loop
 enum-known-count c = search needs
 
 returns-3 : tie.Need-returns-3 Inv-loop μ-loop
-returns-3 c = search needs
+returns-3 c =
+    let a = c .before .before .before .before .before .before .before .before .before .before .before .before .before .before .before .before .before .before .args in let l = c .before .before .before .before .before .before .before .before .before .before .before .before .before .before .before .loop in let x = c .before .before .before .before .before .before .before .before .before .before .x .given .0 .0 in
+    let t : c .before .before .before .before .before .before .before .if1 .types .kinds ≡ typesAfter (a .s .now) (l .at) x (l .types .kinds) =
+    ⊎-elim (λ w. rw (eq-eqb _ _ (w .0 .taken)) (ap (λ (k : Types). k .kinds) (w .3) ∙ rw add-sub-cancel-left at (w .2 .ensures)))
+    (λ w. rw (ne-eqb _ _ (w .0 .left)) (ap (λ (k : Types). k .kinds) (w .1))) (c .before .before .before .before .before .before .before .if1 .came) in
+    let e = sym (c .before .before .before .before .before .before .before .before .before .before .before .before .piece-at .ensures) ∙ c .before .before .before .before .before .before .before .before .before .before .x .given .1 in
+    rw (c .before .before .before .before .first-with .ensures) (on-ended (a .s .now) (a .track) (a .field) (l .at) (l .p) (l .types .kinds) (l .first) (l .inv .3) (c .before .before .before .before .before .before .before .before .before .before .before .before .before .before .loop-test .taken) x e (c .before .before .before .before .before .before .before .if1 .types .kinds) t _ (sym (rw (c .before .before .before .before .before .before .wide .ensures) at (c .before .before .before .take-step .ensures)) ∙ c .before .count .given .1))
 
 enum-known-next : tie.Need-enum-known-next Inv-loop μ-loop
 enum-known-next c = search needs
 
 loop-less : tie.Need-loop-less Inv-loop μ-loop
-loop-less c = search needs
+loop-less c = let w = told _ _ _ _ (sym (c .before .before .before .before .before .before .before .before .before .before .before .before .piece-at .ensures) ∙ c .before .before .before .before .before .before .before .before .before .before .x .given .1) in omega (arith, w .cut .within, w .cut .least)
 
 loop-again : tie.Need-loop-again Inv-loop μ-loop
-loop-again c = search needs
+loop-again c =
+    let a = c .before .before .before .before .before .before .before .before .before .before .before .before .before .before .before .before .before .before .args in let l = c .before .before .before .before .before .before .before .before .before .before .before .before .before .before .before .loop in let x = c .before .before .before .before .before .before .before .before .before .before .x .given .0 .0 in
+    let t : c .before .before .before .before .before .before .before .if1 .types .kinds ≡ typesAfter (a .s .now) (l .at) x (l .types .kinds) =
+    ⊎-elim (λ w. rw (eq-eqb _ _ (w .0 .taken)) (ap (λ (k : Types). k .kinds) (w .3) ∙ rw add-sub-cancel-left at (w .2 .ensures)))
+    (λ w. rw (ne-eqb _ _ (w .0 .left)) (ap (λ (k : Types). k .kinds) (w .1))) (c .before .before .before .before .before .before .before .if1 .came) in
+    let e = sym (c .before .before .before .before .before .before .before .before .before .before .before .before .piece-at .ensures) ∙ c .before .before .before .before .before .before .before .before .before .before .x .given .1 in
+    let f = (sym (rw (c .before .before .before .before .before .before .wide .ensures) at (c .before .before .before .take-step .ensures)) ∙ c .before .next .given .1) in
+    let w = told _ _ _ _ e in
+    let b = next-bounds _ _ _ _ _ _ f in
+    (omega (arith, w .cut .within), omega (arith, w .cut .least, b .0), omega (arith, w .cut .least, b .1), rw (c .before .before .before .before .first-with .ensures) (on-next (a .s .now) (a .track) (a .field) (l .at) (l .p) (l .types .kinds) (l .first) (l .inv .3) (c .before .before .before .before .before .before .before .before .before .before .before .before .before .before .loop-test .taken) x e (c .before .before .before .before .before .before .before .if1 .types .kinds) t _ f))
 
 run-out-requires : tie.Need-run-out-requires Inv-loop μ-loop
 run-out-requires c κs = search needs
 
 returns-4 : tie.Need-returns-4 Inv-loop μ-loop
-returns-4 c = search needs
+returns-4 c = c .run-out .ensures ∙ on-out _ _ _ _ _ _ _ (c .before .before .loop .inv .3) (c .before .loop-test .left)
 
 pub one-pass-spec : {M : Type 1} → statement M
 one-pass-spec =

@@ -1,12 +1,6 @@
 use borrow.Author.Needs.{needs}
 use Rattle.stream.proofs.run_out.Statement.{statement}
 use Rattle.stream.proofs.run_out.Tie as tie
-use Rattle.stream.proofs.run_out.Reads as reads
-use Rattle.stream.proofs.run_out.Lts as lts
-use Rattle.plate.proofs.refuse.Reads as refuse-reads
-use borrow.Author.Needs.{needs}
-use native.Mathlib.Omega.{arith}
-use mathlib.Core.Path.{_≡_, sym, _∙_, refl}
 use borrow.Author.Tests.{eq-eqb, ne-eqb}
 use Rattle.stream.specs.Stream.{ranOut}
 
