@@ -3,7 +3,9 @@ use Prim.Native.Nat.{ℕ}
 use mathlib.Core.Path.{_≡_, refl}
 use mathlib.Core.List.{List, [], _∷_, _++_}
 use lib.ListN.{replicate, take}
-use Rattle.number.specs.Number.{be}
+use lib.Ieee as Ieee
+use lib.Ieee.{binary64}
+use Rattle.number.specs.Number.{be, le}
 use Rattle.media_type.specs.MediaType.{knownType}
 use Rattle.text.specs.Text.{textOk}
 use Rattle.packet.specs.Packet.{headerAt, sizedAt, packetAt, refused}
@@ -25,6 +27,14 @@ use Rattle.map.specs.declared.MapAnswer.the-variants as map-answer
 use Rattle.map.specs.declared.TrackAnswer.{TrackAnswer}
 use Rattle.map.specs.declared.TrackAnswer.the-variants as track-answer
 use Rattle.name.specs.Name as name
+use Rattle.locator.specs.Locator as locator
+use Rattle.locator.specs.declared.PositionAnswer.{PositionAnswer}
+use Rattle.locator.specs.declared.PositionAnswer.the-variants as position-answer
+use Rattle.scan.specs.Scan as scan
+use Rattle.decimal.specs.Decimal as decimal
+use Rattle.decimal.specs.declared.Amount.{Amount}
+use Rattle.decimal.specs.declared.Amount.the-variants as amount
+use Rattle.parameter.specs.Parameters as parameter
 
 -- a reading: what the definitions give, and what the paper says
 pub record Reading : Type 1 where
@@ -109,6 +119,13 @@ trackOf s a = record { Answer = TrackAnswer; gives = map.trackAt s 0 0; says = a
 abbrev nameOf : List ℕ → List ℕ → Reading
 nameOf s a = record { Answer = List ℕ; gives = name.nameBytes s (name.nameAt s 1); says = a }
 
+-- an FLT of step 40 with one entry, 4,194,304
+abbrev flt : List ℕ
+flt = headed 0xFC 28 ++ (40 ∷ 0 ∷ 0 ∷ 0 ∷ 1 ∷ 0 ∷ 0 ∷ 0 ∷ 0 ∷ 0 ∷ 0x40 ∷ 0 ∷ [])
+
+abbrev position : ℕ → PositionAnswer → Reading
+position d a = record { Answer = PositionAnswer; gives = locator.positionAt flt 0 d; says = a }
+
 pub readings : List Reading
 readings =
     -- type FB, length 16: accepted; 15 bytes of it: 1
@@ -130,8 +147,14 @@ readings =
     ∷ trackOf reserved (track1 code.Absent)
     -- M with 50 of length 3: 9 at 37
     ∷ mapOf shorter (map-answer.Refused (refusal 9 37))
+    -- FLT step 40, one entry 4,194,304: distance 39 gives 4,294,967,296; 40 gives 16
+    ∷ position 39 (position-answer.At 4294967296)
+    ∷ position 40 (position-answer.Refused (refusal 16 0))
+    -- Br 0.5: N 500,000, float 0.5
+    ∷ record { Answer = Amount; gives = decimal.rateOf (0x30 ∷ 0x2E ∷ 0x35 ∷ []); says = amount.Of 500000 }
+    ∷ record { Answer = ℕ; gives = Ieee.toBits binary64 (parameter.millionths 500000); says = 0x3FE0000000000000 }
     ∷ []
 
 pub readings-agree : Agree readings
-unfolding readings headerAt sizedAt packetAt be knownType textOk items.split items.sectionOf items.sizeOf judge.formOf judge.isKnown judge.faultOf judge.countsAs judge.has judge.judgeItems judge.verdictOf find.find answer.valueOf answer.allowed answer.codeOf answer.isNull answer.materialOf answer.trackOf tracks.split tracks.tracksOf tracks.trackVerdict tracks.endVerdict tracks.judgeTracks tracks.tracksVerdict tracks.isListed tracks.listed tracks.recordOf tracks.kthOf tracks.idOf map.afterMaterial map.layoutOf map.bothVerdict map.sectionsVerdict map.mapVerdict map.materialSays map.listedIn map.answerOf map.trackIn map.mapAt map.trackAt name.openedOf name.unended name.nameIn name.nameAt
-readings-agree = (refl, (refl, (refl, (refl, (refl, (refl, (refl, (refl, (refl, (refl, (refl, (refl, tt))))))))))))
+unfolding readings headerAt sizedAt packetAt be knownType textOk items.split items.sectionOf items.sizeOf judge.formOf judge.isKnown judge.faultOf judge.countsAs judge.has judge.judgeItems judge.verdictOf find.find answer.valueOf answer.allowed answer.codeOf answer.isNull answer.materialOf answer.trackOf tracks.split tracks.tracksOf tracks.trackVerdict tracks.endVerdict tracks.judgeTracks tracks.tracksVerdict tracks.isListed tracks.listed tracks.recordOf tracks.kthOf tracks.idOf map.afterMaterial map.layoutOf map.bothVerdict map.sectionsVerdict map.mapVerdict map.materialSays map.listedIn map.answerOf map.trackIn map.mapAt map.trackAt name.openedOf name.unended name.nameIn name.nameAt le locator.positionAt locator.positionOf locator.tableOf decimal.rateOf decimal.numeralOf decimal.fractionOf decimal.digits scan.run scan.runEnd scan.other parameter.millionths Ieee.toBits Ieee.div Ieee.ofInt Ieee.round
+readings-agree = (refl, (refl, (refl, (refl, (refl, (refl, (refl, (refl, (refl, (refl, (refl, (refl, (refl, (refl, (refl, (refl, tt))))))))))))))))

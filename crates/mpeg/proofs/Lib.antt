@@ -1,5 +1,5 @@
-pub mod Bench
 pub mod Judging
 pub mod Laws
 pub mod Once
 pub mod Turns
+pub mod Worked

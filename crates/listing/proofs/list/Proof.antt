@@ -1,15 +1,9 @@
 use Rattle.listing.proofs.list.Statement.{statement}
 use Rattle.listing.proofs.list.Tie as tie
-use Rattle.listing.proofs.list.Reads as reads
-use Rattle.listing.proofs.list.Lts as lts
-use Rattle.listing.proofs.print_count.Reads as print-count-reads
-use Rattle.listing.proofs.print_packet.Reads as print-packet-reads
-use Rattle.packet.proofs.header.Reads as header-reads
 use borrow.Author.Needs.{needs}
 use native.Mathlib.Omega.{arith}
 use Prim.Native.Nat.{_≤_, _-_}
 use mathlib.Core.Path.{sym, _∙_}
-use lib.ListN.{length}
 use Rattle.packet.proofs.Laws.{whole}
 
 abbrev Inv-loop : tie.InvT-loop

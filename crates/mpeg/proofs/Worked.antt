@@ -1,4 +1,4 @@
--- The bench reading of Br: 0.5 is 500,000 millionths, and the float is 0.5, whose bits are 3FE0000000000000; other rates' bits; a whole text.
+-- Worked examples: the bits of some rates, and a whole text.
 use Prim.Native.Nat.{ℕ, _^_}
 use mathlib.Core.Path.{_≡_, refl}
 use mathlib.Core.List.{List, [], _∷_, map}
@@ -8,17 +8,12 @@ use Rattle.number.specs.Number.{be}
 use Rattle.text.specs.Text.{textOk}
 use Rattle.scan.specs.Scan.{run, runEnd, alnum, other}
 use Rattle.decimal.specs.Decimal.{digits, numeralOf, fractionOf, wholeOf, rateOf}
-use Rattle.decimal.specs.declared.Amount.the-variants.{Of}
 use Rattle.parameter.specs.Table.{table, rowAt, otherRow, rowFor, rowOf}
 use Rattle.parameter.specs.Parameters.{amountOf, given, wanting, numberOf, millionths, valueOf, lacking, parametersOf}
 use Rattle.mpeg.specs.Lines.{labelAt, linesFrom, linesAt}
 use Rattle.mpeg.specs.Read.{taken, judge, answerOf, readOf}
 use Rattle.parameter.specs.declared.ParameterValue.the-variants.{Whole, Rate}
 use Rattle.mpeg.specs.declared.MpegAnswer.the-variants.{Given}
-
-pub half : rateOf (0x30 ∷ 0x2E ∷ 0x35 ∷ []) ≡ Of 500000
-unfolding rateOf numeralOf fractionOf digits run runEnd other
-half = refl
 
 -- 0.5; 9007199254.740992, the largest; 0; 0.000001; 50000000; 0.123456
 pub bits : map (λ (n : ℕ). Ieee.toBits binary64 (millionths n)) (500000 ∷ 2 ^ 53 ∷ 0 ∷ 1 ∷ 50000000000000 ∷ 123456 ∷ [])

@@ -1,0 +1,258 @@
+// The bench readings that run: streams of 99 and 100 packets without a map, rates of auxiliary texts, and streams that a multiplexer made.
+use answer::Code;
+use answer::Material;
+use answer::Value;
+use libc::STDOUT_FILENO;
+use map::MapAnswer;
+use map::TrackAnswer;
+use mpeg::MpegAnswer;
+use parameter::ParameterValue;
+use stream::CheckAnswer;
+use stream::SeekAnswer;
+ghost use Prim.Native.Nat.{_≤_};
+ghost use lib.ListN.{length};
+
+fn say(text: &[u8]) {
+    io::write_all(STDOUT_FILENO, text);
+}
+
+fn figure(n: u64) {
+    say(b" ");
+    io::print_decimal(STDOUT_FILENO, n);
+}
+
+fn refused(n: u8, place: usize) {
+    say(b"refused");
+    figure(n as u64);
+    figure(place as u64);
+}
+
+// A file's first bytes; none where it cannot be read.
+fn load(path: &[u8], buffer: &mut [u8]) -> usize
+    ensures { λ r. ⌜ r ≤ length (now (buffer .entry)) ⌝ }
+{
+    let file = os::open_read(path);
+    if file < 0 {
+        os::fail(path);
+        return 0;
+    }
+    let n = io::read_full(file, buffer);
+    libc::close(file);
+    n
+}
+
+fn show_check(s: &[u8]) {
+    match stream::check(s) {
+        CheckAnswer::Packets(n) => {
+            say(b"packets");
+            figure(n as u64);
+        }
+        CheckAnswer::Refused(r) => {
+            refused(r.number, r.place);
+        }
+    }
+    say(b"\n");
+}
+
+fn show_seek(s: &[u8], track: u64, field: u64) {
+    say(b"  seek");
+    figure(track);
+    figure(field);
+    say(b": ");
+    match stream::seek(s, track, field) {
+        SeekAnswer::At(o) => {
+            say(b"at");
+            figure(o as u64);
+        }
+        SeekAnswer::Refused(r) => {
+            refused(r.number, r.place);
+        }
+    }
+    say(b"\n");
+}
+
+fn show_value(name: &[u8], v: Value) {
+    match v {
+        Value::Is(n) => {
+            say(name);
+            figure(n as u64);
+        }
+        Value::Absent => {}
+    }
+}
+
+fn show_material(m: Material) {
+    let first = m.first;
+    let last = m.last;
+    let mark_in = m.mark_in;
+    let mark_out = m.mark_out;
+    let size = m.size;
+    show_value(b", first", first);
+    show_value(b", last", last);
+    show_value(b", mark in", mark_in);
+    show_value(b", mark out", mark_out);
+    show_value(b", size", size);
+}
+
+fn show_code(name: &[u8], c: Code) {
+    match c {
+        Code::Is(n) => {
+            say(name);
+            figure(n as u64);
+        }
+        Code::NotApplicable => {
+            say(name);
+            say(b" not applicable");
+        }
+        Code::NotAvailable => {
+            say(name);
+            say(b" not available");
+        }
+        Code::Absent => {}
+    }
+}
+
+// The name of a listed track, as the part of the map that holds it.
+fn show_name(s: &[u8], id: usize) {
+    say(b", name ");
+    say(name::name(s, id));
+}
+
+fn show_track(s: &[u8], k: usize) {
+    match map::track(s, 0, k) {
+        TrackAnswer::Record(t) => {
+            let rate = t.rate;
+            let lines = t.lines;
+            let fields = t.fields;
+            say(b"  track");
+            figure(t.id as u64);
+            say(b", type");
+            figure(t.kind as u64);
+            show_code(b", rate", rate);
+            show_code(b", lines", lines);
+            show_code(b", fields", fields);
+            show_name(s, number::wide(t.id));
+            say(b"\n");
+        }
+        TrackAnswer::Refused(_) => {}
+    }
+}
+
+fn show_map(s: &[u8]) {
+    say(b"  map: ");
+    match map::read(s, 0) {
+        MapAnswer::Says(m) => {
+            let material = m.material;
+            say(b"tracks");
+            figure(m.count as u64);
+            show_material(material);
+        }
+        MapAnswer::Refused(r) => {
+            refused(r.number, r.place);
+        }
+    }
+    say(b"\n");
+}
+
+// A stream: its verdict, its first map, and some seeks.
+fn show_stream(s: &[u8]) {
+    show_check(s);
+    show_map(s);
+    show_track(s, 0);
+    show_track(s, 1);
+    show_seek(s, 0, 0);
+    show_seek(s, 0, 10);
+    show_seek(s, 0, 11);
+    show_seek(s, 1, 0);
+    show_seek(s, 0, 4294967296);
+}
+
+fn stream_file(path: &[u8]) {
+    let mut buffer = [0u8; 131072];
+    let n = load(path, &mut buffer);
+    say(path);
+    say(b": ");
+    show_stream(&buffer[0..n]);
+}
+
+fn check_file(path: &[u8]) {
+    let mut buffer = [0u8; 4096];
+    let n = load(path, &mut buffer);
+    say(path);
+    say(b": ");
+    show_check(&buffer[0..n]);
+}
+
+// The rate of an auxiliary text, held to the one that was computed outside.
+fn show_rate(text: &[u8], want: f64) {
+    match mpeg::read(text) {
+        MpegAnswer::Given(p) => {
+            let br = p.br;
+            match br {
+                ParameterValue::Rate(x) => {
+                    if x == want {
+                        say(b"the float computed outside\n");
+                        return;
+                    }
+                    say(b"another float than the one computed outside\n");
+                }
+                ParameterValue::Whole(_) => {
+                    say(b"a whole number\n");
+                }
+            }
+        }
+        MpegAnswer::Refused(r) => {
+            refused(r.number, r.place);
+            say(b"\n");
+        }
+    }
+}
+
+fn rate_file(path: &[u8], value: &[u8], want: f64) {
+    let mut buffer = [0u8; 256];
+    let n = load(path, &mut buffer);
+    say(b"Br ");
+    say(value);
+    say(b": ");
+    show_rate(&buffer[0..n], want);
+}
+
+fn rates() {
+    rate_file(b"br_0.txt", b"0.5", f64::from_bits(0x3FE0000000000000));
+    rate_file(
+        b"br_1.txt",
+        b"9007199254.740992",
+        f64::from_bits(0x4200C6F7A0B5ED8D),
+    );
+    rate_file(b"br_2.txt", b"9007199254.740993", 0.0);
+    rate_file(b"br_3.txt", b"0", f64::from_bits(0x0000000000000000));
+    rate_file(b"br_4.txt", b"0.000001", f64::from_bits(0x3EB0C6F7A0B5ED8D));
+}
+
+fn more_rates() {
+    rate_file(b"br_5.txt", b"50000000", f64::from_bits(0x4187D78400000000));
+    rate_file(
+        b"br_6.txt",
+        b"1234567890",
+        f64::from_bits(0x41D26580B4800000),
+    );
+    rate_file(b"br_7.txt", b"12345678901", 0.0);
+    rate_file(b"br_8.txt", b"0.123456", f64::from_bits(0x3FBF9ACFFA7EB6BF));
+    rate_file(b"br_9.txt", b"0.1234567", 0.0);
+}
+
+fn main() {
+    check_file(b"without_map_99.gxf");
+    check_file(b"without_map_100.gxf");
+    rates();
+    more_rates();
+    stream_file(b"pal_one_frame.gxf");
+    stream_file(b"pal_mpeg2.gxf");
+    stream_file(b"ntsc_mpeg2.gxf");
+    stream_file(b"pal_mpeg1.gxf");
+    stream_file(b"ntsc_mpeg1.gxf");
+    stream_file(b"pal_timecode.gxf");
+    stream_file(b"pal_mjpeg.gxf");
+    stream_file(b"pal_120.gxf");
+    stream_file(b"pal_longer.gxf");
+}
