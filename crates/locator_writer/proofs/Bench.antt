@@ -1,0 +1,53 @@
+-- Readings of the writer: step 40, one entry 4,194,304, and the edges of what it takes.
+use mathlib.Core.Path.{_≡_, refl}
+use mathlib.Core.List.{[], _∷_}
+use lib.ListN.{replicate}
+use Rattle.number.specs.Number.{beBytes, leBytes}
+use Rattle.locator.proofs.Bench.{flt}
+use Rattle.locator_writer.specs.Write.{headerOf, entriesOf, packetOf, allFit, mayWrite, refused, writeOf, written}
+use Rattle.locator_writer.specs.declared.WriteAnswer.the-variants.{Length}
+
+-- the packet of the locator's readings
+pub as-read : packetOf 40 (4194304 ∷ []) ≡ flt
+unfolding packetOf headerOf entriesOf beBytes leBytes
+as-read = refl
+
+-- no entry, in a buffer of just that length: one byte fewer is 13, as is a place beyond the buffer
+pub no-entry : writeOf (replicate 24 7) 0 40 [] ≡ Length 24
+unfolding writeOf mayWrite allFit
+no-entry = refl
+
+pub one-byte-short : writeOf (replicate 24 7) 1 40 [] ≡ refused 13
+unfolding writeOf mayWrite allFit
+one-byte-short = refl
+
+pub place-beyond : writeOf (replicate 24 7) 18446744073709551615 40 [] ≡ refused 13
+unfolding writeOf mayWrite allFit
+place-beyond = refl
+
+-- 24 comes before 13: in a buffer of no byte
+pub step-0 : writeOf [] 0 0 [] ≡ refused 24
+unfolding writeOf mayWrite allFit
+step-0 = refl
+
+pub step-over : writeOf [] 0 4294967296 [] ≡ refused 24
+unfolding writeOf mayWrite allFit
+step-over = refl
+
+pub offset-over : writeOf [] 0 1 (7 ∷ 4294967296 ∷ []) ≡ refused 24
+unfolding writeOf mayWrite allFit
+offset-over = refl
+
+pub entries-over : writeOf [] 0 1 (replicate 1001 7) ≡ refused 24
+unfolding writeOf mayWrite allFit
+entries-over = refl
+
+pub entries-1000 : writeOf [] 0 4294967295 (replicate 1000 4294967295) ≡ refused 13
+unfolding writeOf mayWrite allFit
+entries-1000 = refl
+
+-- the byte before and the byte after stay
+pub between : written (replicate 26 7) 1 0x01020304 []
+    ≡ 7 ∷ 0 ∷ 0 ∷ 0 ∷ 0 ∷ 1 ∷ 0xFC ∷ 0 ∷ 0 ∷ 0 ∷ 24 ∷ 0 ∷ 0 ∷ 0 ∷ 0 ∷ 0xE1 ∷ 0xE2 ∷ 4 ∷ 3 ∷ 2 ∷ 1 ∷ 0 ∷ 0 ∷ 0 ∷ 0 ∷ 7 ∷ []
+unfolding written writeOf mayWrite allFit packetOf headerOf entriesOf beBytes leBytes
+between = refl

@@ -1,0 +1,100 @@
+-- The round trip: what was written at its place is read there as what was given, and the bytes before and after it are as they were.
+use Prim.Native.Nat.{ℕ, _+_, _*_, _/_, _<_, _≤_}
+use mathlib.Core.Path.{_≡_, sym, _∙_, ap}
+use mathlib.Core.Bool.{true}
+use mathlib.Core.List.{List, _++_, append-assoc}
+use native.Mathlib.Omega.{arith}
+use native.Mathlib.Nat.{mul-div-cancel}
+use borrow.Author.Tests.{le-ltb, ne-eqb}
+use lib.ListN.{length, getD, take, drop, length-append, length-drop}
+use lib.Seq.{length-take-le, take-at, drop-at}
+use Rattle.plate.specs.Plate.{refusal}
+use Rattle.packet.specs.Packet.{packetAt, headerAt}
+use Rattle.packet.specs.declared.PacketAnswer.the-variants.{Whole}
+use Rattle.packet.proofs.Edge.{anywhere}
+use Rattle.locator.specs.Locator.{tableAt, positionAt}
+use Rattle.locator.specs.declared.LocatorAnswer.the-variants.{Table}
+use Rattle.locator.specs.declared.PositionAnswer.the-variants.{At, Refused as NoPosition}
+use Rattle.locator_writer.specs.Write.{lengthOf, packetOf, mayWrite, writeOf, written}
+use Rattle.locator_writer.specs.declared.WriteAnswer.the-variants.{Length, Refused}
+use Rattle.locator_writer.proofs.Laws.{length-packet, wrote}
+use Rattle.locator_writer.proofs.Back.{may, all-small, small-all, table, position, past, header, answered}
+use contract.Lifetimes.{Lfts}
+use borrow.Fn.Kinds.{endedOf, Dens}
+use denote.Triple.Clauses.{AtExit}
+use Rattle.locator_writer.proofs.write.Kinds as kinds
+use Rattle.locator_writer.proofs.write.Reads as reads
+use Rattle.plate.specs.declared.Refusal.{Refusal}
+
+-- of a buffer, what was asked, the length answered, and the buffer afterwards: the table is read back whole, and all else is as it was
+pub record ReadBack (out : List ℕ) (at step : ℕ) (ns : List ℕ) (n : ℕ) (now : List ℕ) : Type 0 where
+  pub long : n ≡ 24 + 4 * length ns
+  pub table : tableAt now at ≡ Table (record { step = step; count = length ns })
+  -- every distance within the table gives the position of its entry, 1,024 times the offset
+  pub position : (d : ℕ) → d / step < length ns → positionAt now at d ≡ At (1024 * getD ns (d / step) 0)
+  -- the first field of entry k
+  pub entry : (k : ℕ) → k < length ns → positionAt now at (k * step) ≡ At (1024 * getD ns k 0)
+  pub past : (d : ℕ) → length ns ≤ d / step → positionAt now at d ≡ NoPosition (refusal 16 0)
+  pub before : take at now ≡ take at out
+  pub after : drop (at + n) now ≡ drop (at + n) out
+  pub lengths : length now ≡ length out
+
+pub round-trip : (out : List ℕ) (at step : ℕ) (ns : List ℕ) (n : ℕ) → writeOf out at step ns ≡ Length n → ReadBack out at step ns n (written out at step ns)
+unfolding tableAt positionAt packetAt
+round-trip out at step ns n e =
+    let a = answered out at step ns n e in
+    let m = may step ns (a .may) in
+    let p = packetOf step ns in
+    let q = take at out in
+    let r = drop (at + length p) out in
+    let w = wrote out at step ns (a .may) (a .room) .1 in
+    let s : written out at step ns ≡ q ++ (p ++ r) = w ∙ append-assoc q p r in
+    let room = a .room in
+    let lq : length q ≡ at = length-take-le at out (omega arith) in
+    let lp = length-packet step ns in
+    let h : headerAt (q ++ (p ++ r)) at ≡ Whole (record { kind = 0xFC; len = lengthOf ns }) = rw lq at (anywhere q (p ++ r) _ (header step ns m r)) in
+    let b : take (lengthOf ns) (drop at (q ++ (p ++ r))) ≡ p = rw (drop-at q (p ++ r) at lq) (take-at p r (lengthOf ns) lp) in
+    let some = m .some in
+    let back : (k : ℕ) → k * step / step ≡ k = λ k. mul-div-cancel k some in
+    let pos : (d : ℕ) → d / step < length ns → positionAt (q ++ (p ++ r)) at d ≡ At (1024 * getD ns (d / step) 0) = λ d g. simp (h, b, position step ns m d g) in
+    let lens = a .lens in
+    let g : at + length p ≡ at + n = omega arith in
+    let l : length (q ++ p) ≡ at + n = rw length-append (omega arith) in
+    rw s
+    record {
+      long = a .lens;
+      table = simp (h, b, table step ns m);
+      position = pos;
+      entry = λ k g. rw (back k) at (pos (k * step) (rw (back k) g));
+      past = λ d g. simp (h, b, past step ns m d g);
+      before = take-at q (p ++ r) at lq;
+      after = rw (← append-assoc q p r) (drop-at (q ++ p) r (at + n) l ∙ ap (λ (k : ℕ). drop k out) g);
+      lengths = rw (length-append, length-append, length-drop) (omega arith);
+    }
+
+-- nothing is cut: what is written lies within its field, so that a number over 32 bits is always refused
+pub never-cut : (out : List ℕ) (at step : ℕ) (ns : List ℕ) (n : ℕ) → writeOf out at step ns ≡ Length n
+    → (0 < step) × (step ≤ 0xFFFFFFFF) × (length ns ≤ 1000) × ((k : ℕ) → getD ns k 0 ≤ 0xFFFFFFFF)
+never-cut out at step ns n e =
+    let m = may step ns (answered out at step ns n e .may) in
+    let fits = m .fits in
+    (m .some, omega arith, m .few, all-small ns (m .all))
+
+-- the other way: a table within its bounds is written wherever there is room for it
+pub accepted : (out : List ℕ) (at step : ℕ) (ns : List ℕ) → 0 < step → step ≤ 0xFFFFFFFF → length ns ≤ 1000 → ((k : ℕ) → getD ns k 0 ≤ 0xFFFFFFFF)
+    → at + (24 + 4 * length ns) ≤ length out → writeOf out at step ns ≡ Length (24 + 4 * length ns)
+unfolding mayWrite
+accepted out at step ns a b d f h =
+    let m : mayWrite step ns ≡ true =
+    simp (ne-eqb step 0 (λ e. omega arith), le-ltb 0xFFFFFFFF step b, le-ltb 1000 (length ns) d, small-all ns f) in
+    wrote out at step ns m h .0
+
+-- what the contract says of a length answered: the buffer at exit reads back as what was given; and of a refusal: the buffer is as it was
+pub write-reads-back : (κs : Lfts 2) (a : Dens κs kinds.ps) (n : ℕ) (s : AtExit (endedOf 2 kinds.ps kinds.r) κs)
+    → reads.Post κs a (Length n) s → ReadBack (a .0 .now) (a .1 .0) (a .1 .1 .0) (a .1 .1 .1 .0 .now) n (s .0 .now)
+write-reads-back κs a n s p = rw (p .1) (round-trip (a .0 .now) (a .1 .0) (a .1 .1 .0) (a .1 .1 .1 .0 .now) n (sym (p .0)))
+
+pub refused-stays : (κs : Lfts 2) (a : Dens κs kinds.ps) (r : Refusal) (s : AtExit (endedOf 2 kinds.ps kinds.r) κs)
+    → reads.Post κs a (Refused r) s → s .0 .now ≡ a .0 .now
+unfolding written
+refused-stays κs a r s p = p .1 ∙ rw (← p .0)
