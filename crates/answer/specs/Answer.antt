@@ -3,7 +3,8 @@ use Prim.Native.Nat.{ℕ, _-_}
 use mathlib.Core.Bool.{Bool, false}
 use mathlib.Core.List.{List, [], _∷_}
 use lib.ListN.{length}
-use lib.Dec.{eqb}
+use lib.Dec.{eqb, ltb}
+use lib.IntN.{ℤ, pos, negsuc}
 use Rattle.plate.specs.Choice.{pick, within}
 use Rattle.number.specs.Number.{be}
 use Rattle.items.specs.Items.{Item}
@@ -37,6 +38,21 @@ codeOf tag (value.Is n) =
     pick (eqb n 0xFFFFFFFF) code.NotApplicable
     (pick (eqb n 0xFFFFFFFE) code.NotAvailable
     (pick (allowed tag n) (code.Is n) code.Absent))
+
+-- the number of the paper that each case of a code is; an absent code is none
+pub data Meaning : Type 0 where
+  nothing : Meaning
+  number : ℤ → Meaning
+
+unfoldable pub meaningOf : Code → Meaning
+meaningOf (code.Is n) = number (pos n)
+meaningOf code.NotApplicable = number (negsuc 0)
+meaningOf code.NotAvailable = number (negsuc 1)
+meaningOf code.Absent = nothing
+
+-- four bytes as INT32; `negsuc n` is −(n + 1)
+unfoldable pub signed : ℕ → ℤ
+signed n = pick (ltb n 0x80000000) (pos n) (negsuc (0xFFFFFFFF - n))
 
 -- the null name: in an accepted section a text of one byte is a lone 00
 unfoldable pub isNull : Part → Bool

@@ -1,5 +1,5 @@
 pub mod Back
-pub mod Bench
 pub mod Laws
 pub mod Once
 pub mod RoundTrip
+pub mod Worked

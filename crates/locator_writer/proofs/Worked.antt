@@ -1,14 +1,14 @@
--- Readings of the writer: step 40, one entry 4,194,304, and the edges of what it takes.
+-- Worked examples of the writer: step 40, one entry 4,194,304, and the edges of what it takes.
 use mathlib.Core.Path.{_≡_, refl}
 use mathlib.Core.List.{[], _∷_}
 use lib.ListN.{replicate}
 use Rattle.number.specs.Number.{beBytes, leBytes}
-use Rattle.locator.proofs.Bench.{flt}
 use Rattle.locator_writer.specs.Write.{headerOf, entriesOf, packetOf, allFit, mayWrite, refused, writeOf, written}
 use Rattle.locator_writer.specs.declared.WriteAnswer.the-variants.{Length}
 
--- the packet of the locator's readings
-pub as-read : packetOf 40 (4194304 ∷ []) ≡ flt
+-- the packet of the bench reading
+pub as-read : packetOf 40 (4194304 ∷ [])
+    ≡ 0 ∷ 0 ∷ 0 ∷ 0 ∷ 1 ∷ 0xFC ∷ 0 ∷ 0 ∷ 0 ∷ 28 ∷ 0 ∷ 0 ∷ 0 ∷ 0 ∷ 0xE1 ∷ 0xE2 ∷ 40 ∷ 0 ∷ 0 ∷ 0 ∷ 1 ∷ 0 ∷ 0 ∷ 0 ∷ 0 ∷ 0 ∷ 0x40 ∷ 0 ∷ []
 unfolding packetOf headerOf entriesOf beBytes leBytes
 as-read = refl
 
