@@ -21,15 +21,17 @@ numeralOf most v = pick (ltb 0 (length v)) (pick (leb (length v) most) (digits 0
 unfoldable pub wholeOf : List ℕ → Amount
 wholeOf v = numeralOf 9 v
 
--- a rate (house rule of 01): 1 to 10 digits, then optionally a point and 1 to 6 digits; in millionths, 2^53 at most
+-- an amount times a number
 abbrev pub times : ℕ → Amount → Amount
 times k (Of n) = Of (n * k)
 times k Malformed = Malformed
 
+-- a point and 1 to 6 digits, or nothing, in millionths
 unfoldable pub fractionOf : List ℕ → Amount
 fractionOf [] = Of 0
 fractionOf (point ∷ v) = times (10 ^ (6 - length v)) (numeralOf 6 v)
 
+-- a sum of millionths, 2^53 at most
 abbrev pub plus : Amount → Amount → Amount
 plus (Of n) (Of m) = pick (leb (n + m) (2 ^ 53)) (Of (n + m)) Malformed
 plus (Of n) Malformed = Malformed
@@ -39,5 +41,6 @@ plus Malformed b = Malformed
 abbrev pub pointIn : List ℕ → ℕ
 pointIn v = runEnd (other 0x2E) v 0
 
+-- a rate (house rule of 01): 1 to 10 digits, then optionally a point and 1 to 6 digits; in millionths, 2^53 at most
 unfoldable pub rateOf : List ℕ → Amount
 rateOf v = plus (times 1000000 (numeralOf 10 (take (pointIn v) v))) (fractionOf (drop (pointIn v) v))

@@ -28,7 +28,7 @@ tableOf p =
     (pick (ltb (length p - 16) (8 + 4 * le p 20 4)) (noTable 8)
     (Table (record { step = le p 16 4; count = le p 20 4 })))))
 
--- the entry for a distance in fields from the field of entry 0: rounded down
+-- the entry for a distance in fields from the field of entry 0, the first field plus one step (Table 14, n = 1): rounded down
 abbrev pub entryFor : ℕ → Locator → ℕ
 entryFor d t = d / t .step
 

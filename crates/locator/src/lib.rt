@@ -1,4 +1,6 @@
 // The field locator table: its step and count, and the position in the stream for a distance in fields.
+// The distance counts from the field of entry 0, which is the first field and one step (Table 14): for field N a caller gives N less that.
+// `table` and `position_in` take the bytes of one packet whose header was read, up to its length.
 use packet::PacketAnswer;
 use plate::Refusal;
 ghost use mathlib.Core.Path.{_≡_};

@@ -37,7 +37,7 @@ allFit (n ∷ ns) = pick (ltb 0xFFFFFFFF n) false (allFit ns)
 unfoldable pub mayWrite : ℕ → List ℕ → Bool
 mayWrite step ns = pick (eqb step 0) false (pick (ltb 0xFFFFFFFF step) false (pick (ltb 1000 (length ns)) false (allFit ns)))
 
--- a writer's refusals have no place
+-- the place of a writer's refusals is 0
 abbrev pub refused : ℕ → WriteAnswer
 refused n = Refused (refusal n 0)
 

@@ -19,7 +19,7 @@ pub enum MediaAnswer {
     Refused(Refusal),
 }
 
-// The preamble in the bytes of a packet that stands at a position; whether its type is known is the crate media_type's matter.
+// The preamble in the bytes of a packet whose header was read and that stands at a position; whether its type is known is the crate media_type's matter.
 pub fn preamble(p: &[u8], at: usize) -> MediaAnswer
     ensures { λ r. ⌜ r ≡ preambleOf (now (p .entry)) at ⌝ }
 {

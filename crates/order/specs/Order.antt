@@ -1,4 +1,4 @@
--- The order of packets (RDD 14, clauses 5.1 and 5.2; 01, "Stream, seek, book"): one piece after another, by their types alone.
+-- The order of packets (RDD 14, clauses 5.1 and 5.2; 01, "Stream, seek, book"): one piece after another, with the type that the latest map lists under a media packet's ID, and whether bytes follow.
 use Prim.Native.Nat.{ℕ, _+_}
 use mathlib.Core.Bool.{Bool, true, false, not}
 use lib.Dec.{eqb, leb}

@@ -3,9 +3,8 @@ use piece::Piece;
 use plate::Refusal;
 ghost use mathlib.Core.Path.{_≡_};
 ghost use Prim.Native.Nat.{_+_, _<_, _^_};
-ghost use mathlib.Core.Bool.{true, false};
 ghost use Rattle.plate.specs.Plate.{refusal};
-ghost use Rattle.order.specs.Order.{misplaced, overdue, unmapped, eitherRole, falls, after, ending, stepOf};
+ghost use Rattle.order.specs.Order.{started, misplaced, overdue, unmapped, eitherRole, falls, after, ending, stepOf};
 
 // What has passed: packets in all, packets since the latest map, whether an FLT was seen, whether EOS must follow it, whether a UMF was seen.
 pub struct Progress {
@@ -31,7 +30,7 @@ fn refused(number: u8, at: usize) -> Step
 
 // Before the first packet.
 pub fn start() -> Progress
-    ensures { λ r. ⌜ r ≡ record { count = 0; since = 0; flt = false; due = false; umf = false } ⌝ }
+    ensures { λ r. ⌜ r ≡ started ⌝ }
 {
     Progress {
         count: 0,

@@ -41,7 +41,7 @@ valueOf r slot = pick (rate r) (Rate (millionths (numberOf r slot))) (Whole (num
 unfoldable pub wanting : Row → ℕ → Bool
 wanting r slot = pick (required r) (pick (given r slot) false true) false
 
--- whether one of the first n is
+-- whether one of the first n rows is required and not given
 unfoldable pub lacking : List ℕ → ℕ → Bool
 lacking slots zero = false
 lacking slots (suc n) = pick (wanting (rowAt n) (getD slots n 0)) true (lacking slots n)

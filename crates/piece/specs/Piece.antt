@@ -22,7 +22,7 @@ use Rattle.media.specs.declared.MediaAnswer.the-variants as media
 use Rattle.piece.specs.declared.PieceAnswer.{PieceAnswer}
 use Rattle.piece.specs.declared.PieceAnswer.the-variants.{Whole, Refused}
 
--- a check adds the packet's offset to places inside the packet
+-- a check adds the packet's offset to places inside the packet; the place of 12 in media, asked at 0, becomes the packet's own
 abbrev pub moved : ℕ → Refusal → Refusal
 moved at r = refusal (r .number) (r .place + at)
 
@@ -42,7 +42,7 @@ abbrev pub ofMedia : ℕ → ℕ → MediaAnswer → PieceAnswer
 ofMedia at len (media.Preamble m) = Whole (record { role = 0xBF; len = len; kind = m .kind; track = m .track; field = m .field })
 ofMedia at len (media.Refused r) = Refused (moved at r)
 
--- maps whole, FLT counts, the media preamble; EOS, UMF and reserved packets are not opened
+-- maps whole, the FLT's step, count and room, the media preamble; EOS, UMF and reserved packets are not opened
 unfoldable pub contentOf : List ℕ → ℕ → ℕ → PieceAnswer
 contentOf p at role =
     pick (eqb role 0xBF) (ofMedia at (length p) (preambleOf p 0))

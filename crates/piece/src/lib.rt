@@ -1,4 +1,4 @@
-// A piece of a stream: what one packet is to the rules of streams, or the first fault of its header and content.
+// A piece of a stream: what one packet is to the rules of streams, or its first fault: of its header, 17, of its content.
 use items::Verdict;
 use locator::LocatorAnswer;
 use media::MediaAnswer;
@@ -31,7 +31,7 @@ fn refused_at(r: Refusal, at: usize) -> PieceAnswer
     PieceAnswer::Refused(plate::refuse(r.number, r.place + at))
 }
 
-// A packet that says nothing but its type and length.
+// A packet of which the rules of streams ask its type and length alone.
 fn plain(role: u8, len: usize) -> PieceAnswer
     ensures { λ x. ⌜ x ≡ PieceAnswer.Whole (record { role = role; len = len; kind = 0; track = 0; field = 0 }) ⌝ }
 {

@@ -3,8 +3,8 @@ use Prim.Native.Nat.{ℕ, suc, _+_}
 use mathlib.Core.Bool.{Bool, true, false}
 use mathlib.Core.List.{List, [], _∷_}
 use lib.ListN.{drop}
-use lib.Dec.{leb, eqb}
-use Rattle.plate.specs.Choice.{pick}
+use lib.Dec.{eqb}
+use Rattle.plate.specs.Choice.{pick, within}
 
 unfoldable pub run : {A : Type 0} → (A → Bool) → List A → ℕ
 run p [] = 0
@@ -13,10 +13,6 @@ run p (x ∷ s) = pick (p x) (suc (run p s)) 0
 -- the place of the first that is of another kind, or the end
 unfoldable pub runEnd : {A : Type 0} → (A → Bool) → List A → ℕ → ℕ
 runEnd p s at = at + run p (drop at s)
-
--- from the first to the last, both in
-abbrev pub within : ℕ → ℕ → ℕ → Bool
-within first last n = pick (leb first n) (leb n last) false
 
 -- letters and digits of ASCII: 0 to 9, A to Z, a to z
 unfoldable pub alnum : ℕ → Bool

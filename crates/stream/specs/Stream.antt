@@ -32,7 +32,7 @@ pub record Placed : Type 0 where
   pub piece : Piece
   pub types : List ℕ
 
--- how the packets end: with an EOS, where no bytes are left, or at a packet whose header or content is refused
+-- how the packets end: with an EOS, where no bytes are left, or at a packet whose header or content is refused, or that is first and no map
 pub data End : Type 0 where
   closed : End
   runsOut : End
@@ -65,7 +65,7 @@ packetsFrom s zero first types at = none runsOut
 packetsFrom s (suc f) first types at =
     pick (ltb at (length s)) (onPiece s at types (λ now-types next. packetsFrom s f false now-types next) (pieceAt s at first)) (none runsOut)
 
--- the packets of a stream, up to the first fault of a header or content, or to EOS
+-- the packets of a stream, up to EOS, to the last byte, or to a packet that `pieceAt` refuses
 unfoldable pub packets : List ℕ → Packets
 packets s = packetsFrom s (suc (length s)) true (replicate 64 0) 0
 
@@ -73,7 +73,7 @@ packets s = packetsFrom s (suc (length s)) true (replicate 64 0) 0
 unfoldable pub ranOut : ℕ → ℕ → Refusal
 ranOut count len = pick (eqb count 0) (refusal 17 0) (refusal 18 len)
 
--- the end of the packets, in a stream of n bytes, after some progress
+-- the end of the packets, in a stream of n bytes, after some progress; an EOS ends the walk by its own step, so that nothing comes to `closed`
 abbrev pub atEnd : ℕ → Progress → End → CheckAnswer
 atEnd n p closed = check.Refused (ranOut (p .count) n)
 atEnd n p runsOut = check.Refused (ranOut (p .count) n)
