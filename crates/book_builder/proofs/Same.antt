@@ -1,5 +1,5 @@
 -- The book of a stream that passes the check: it is a good book, and lookup in it gives what seek gives in the stream, for every track and field.
-use Prim.Native.Nat.{ℕ, _*_, _^_, _<_}
+use Prim.Native.Nat.{ℕ, _*_, _^_, _<_, _≤_}
 use mathlib.Core.Path.{_≡_, refl, _∙_, ap}
 use mathlib.Core.Bool.{Bool, true, false}
 use mathlib.Core.List.{List, [], _∷_, _++_}
@@ -7,6 +7,7 @@ use native.Mathlib.Omega.{arith}
 use lib.ListN.{length, take, drop}
 use lib.Seq.{take-append-seam, drop-append-seam}
 use lib.Dec.{eqb, ltb}
+use borrow.Author.Tests.{le-ltb}
 use Rattle.plate.specs.Choice.{pick}
 use Rattle.plate.specs.Plate.{refusal}
 use Rattle.plate.specs.declared.Refusal.{Refusal}
@@ -98,6 +99,11 @@ book-of l s n e =
     let a : 16 * n ≡ length (bytesOf (entriesIn s)) = omega (arith, length-bytes (entriesIn s), told l s n e .many) in
     rw (e, a) (take-append-seam (bytesOf (entriesIn s)) (drop (length (bytesOf (entriesIn s))) l))
 
+-- a stream that passes the check is answered by the number of its records, where the buffer has room for them
+pub answered : (l s : List ℕ) (n : ℕ) → checkOf s ≡ check.Packets n → 16 * length (entriesIn s) ≤ length l → buildAnswer l s ≡ build.Records (length (entriesIn s))
+unfolding buildAnswer
+answered l s n e h = rw (e, le-ltb (length l) (16 * length (entriesIn s)) h)
+
 -- the bytes beyond the book stay
 pub beyond-stays : (l s : List ℕ) (n : ℕ) → buildAnswer l s ≡ build.Records n → drop (16 * n) (builtIn l s) ≡ drop (16 * n) l
 unfolding builtIn
@@ -112,10 +118,11 @@ refused-stays l s r e = rw e
 
 -- s is what a slice lends: bytes, fewer than 2^64; l is the lent buffer
 module _ (s : List ℕ) (b : Bytes s) (small : length s < 2 ^ 64) where
-  records-good : GoodBook (bytesOf (entriesIn s))
+  pub records-good : GoodBook (bytesOf (entriesIn s))
   records-good = rw (book-back (entriesIn s) (sound s b small .fit)) (sound s b small .judged)
 
-  records-same : (n : ℕ) → checkOf s ≡ check.Packets n → (track field : ℕ) → asSeek (lookupOf (bytesOf (entriesIn s)) track field) ≡ seekOf s track field
+  -- for every stream that passes the check, lookup in its records gives what seek gives: the offset, or 16
+  pub records-same : (n : ℕ) → checkOf s ≡ check.Packets n → (track field : ℕ) → asSeek (lookupOf (bytesOf (entriesIn s)) track field) ≡ seekOf s track field
   unfolding seekOf
   records-same n e track field =
       rw (e, lookup-back (entriesIn s) track field (sound s b small .fit), sound s b small .judged)
@@ -126,6 +133,6 @@ module _ (s : List ℕ) (b : Bytes s) (small : length s < 2 ^ 64) where
     pub good-built : GoodBook (take (16 * n) (builtIn l s))
     good-built = rw (book-of l s n e) records-good
 
-    -- lookup in a built book gives what seek gives: the offset, or 16
+    -- lookup in a built book gives what seek gives
     pub lookup-is-seek : (track field : ℕ) → asSeek (lookupOf (take (16 * n) (builtIn l s)) track field) ≡ seekOf s track field
     lookup-is-seek track field = let t = told l s n e in rw (book-of l s n e) (records-same (t .packets) (t .passed) track field)
