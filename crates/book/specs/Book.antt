@@ -54,16 +54,16 @@ bookFrom s (suc f) at = pick (ltb at (length s)) (onSlot (bookFrom s f (at + 16)
 unfoldable pub bookOf : List ℕ → Book
 bookOf s = bookFrom s (suc (length s)) 0
 
--- as record n, behind one of an offset: ID up to 63, known type, and an offset over the one before, which the first has not
+-- as record n, behind one of an offset: ID up to 63, known type and, but for the first, an offset over that one's
 unfoldable pub stands : ℕ → ℕ → Entry → Bool
 stands n last e = pick (ltb 63 (e .track)) false (pick (knownType (e .kind)) (pick (eqb n 0) true (ltb last (e .at))) false)
 
--- a book is good, or bad from a record number on
+-- a book is good, or bad, with the number of its lowest bad record
 pub data Verdict : Type 0 where
   good : Verdict
   bad : ℕ → Verdict
 
--- the lowest number of a bad record, n records behind; what is no record after them takes the number of those before it
+-- n records passed, the latest of an offset: of two offsets that do not rise the later is bad; what is no record takes the number of those before it
 unfoldable pub judge : ℕ → ℕ → List Entry → Bool → Verdict
 judge n last [] whole = pick whole good (bad n)
 judge n last (e ∷ es) whole = pick (stands n last e) (judge (n + 1) (e .at) es whole) (bad n)
