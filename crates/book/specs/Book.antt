@@ -1,0 +1,100 @@
+-- The seek book (01, "Stream, seek, book"): the entries, their bytes, when a lent book is good, and lookup. A book is its list of entries; only the bytes know the layout.
+use Prim.Native.Nat.{ℕ, zero, suc, _+_, _-_}
+use mathlib.Core.Bool.{Bool, true, false}
+use mathlib.Core.List.{List, [], _∷_, _++_}
+use lib.ListN.{length, getD}
+use lib.Dec.{eqb, ltb}
+use Rattle.plate.specs.Choice.{pick}
+use Rattle.plate.specs.Plate.{refusal}
+use Rattle.number.specs.Number.{le, leBytes}
+use Rattle.media_type.specs.MediaType.{knownType}
+use Rattle.book.specs.declared.Entry.{Entry}
+use Rattle.book.specs.declared.Slot.{Slot}
+use Rattle.book.specs.declared.Slot.the-variants as slot
+use Rattle.book.specs.declared.Found.{Found}
+use Rattle.book.specs.declared.Found.the-variants as found
+use Rattle.book.specs.declared.LookupAnswer.{LookupAnswer}
+use Rattle.book.specs.declared.LookupAnswer.the-variants as lookup
+
+-- the encoder: mark 47 58, ID, type, field number (32), packet offset (64), least significant first; 16 bytes
+unfoldable pub recordBytes : Entry → List ℕ
+recordBytes e = 0x47 ∷ 0x58 ∷ e .track ∷ e .kind ∷ (leBytes 4 (e .field) ++ leBytes 8 (e .at))
+
+unfoldable pub bytesOf : List Entry → List ℕ
+bytesOf [] = []
+bytesOf (e ∷ es) = recordBytes e ++ bytesOf es
+
+-- the decoder: what stands at a place, a record where 16 bytes with the marks are there
+unfoldable pub slotAt : List ℕ → ℕ → Slot
+slotAt s at =
+    pick (ltb (length s - at) 16) slot.Broken
+    (pick (eqb (getD s at 0) 0x47)
+    (pick (eqb (getD s (at + 1) 0) 0x58)
+    (slot.Holds (record { track = getD s (at + 2) 0; kind = getD s (at + 3) 0; field = le s (at + 4) 4; at = le s (at + 8) 8 }))
+    slot.Broken)
+    slot.Broken)
+
+-- a lent book taken apart: its entries up to its end, or up to something that is no record
+pub record Book : Type 0 where
+  pub entries : List Entry
+  pub whole : Bool
+
+abbrev pub ends : Bool → Book
+ends w = record { entries = []; whole = w }
+
+abbrev pub onSlot : Book → Slot → Book
+onSlot rest slot.Broken = ends false
+onSlot rest (slot.Holds e) = record { entries = e ∷ rest .entries; whole = rest .whole }
+
+-- from a place on; f is more than the records that can follow
+unfoldable pub bookFrom : List ℕ → ℕ → ℕ → Book
+bookFrom s zero at = ends false
+bookFrom s (suc f) at = pick (ltb at (length s)) (onSlot (bookFrom s f (at + 16)) (slotAt s at)) (ends true)
+
+unfoldable pub bookOf : List ℕ → Book
+bookOf s = bookFrom s (suc (length s)) 0
+
+-- as record n, behind one of an offset: ID up to 63, known type and, but for the first, an offset over that one's
+unfoldable pub stands : ℕ → ℕ → Entry → Bool
+stands n last e = pick (ltb 63 (e .track)) false (pick (knownType (e .kind)) (pick (eqb n 0) true (ltb last (e .at))) false)
+
+-- a book is good, or bad, with the number of its lowest bad record
+pub data Verdict : Type 0 where
+  good : Verdict
+  bad : ℕ → Verdict
+
+-- n records passed, the latest of an offset: of two offsets that do not rise the later is bad; what is no record takes the number of those before it
+unfoldable pub judge : ℕ → ℕ → List Entry → Bool → Verdict
+judge n last [] whole = pick whole good (bad n)
+judge n last (e ∷ es) whole = pick (stands n last e) (judge (n + 1) (e .at) es whole) (bad n)
+
+abbrev pub isOf : ℕ → ℕ → Entry → Bool
+isOf track field e = pick (eqb (e .track) track) (eqb (e .field) field) false
+
+-- the offset of the first entry of a track and field
+unfoldable pub firstIn : ℕ → ℕ → List Entry → Found
+firstIn track field [] = found.Nothing
+firstIn track field (e ∷ es) = pick (isOf track field e) (found.At (e .at)) (firstIn track field es)
+
+-- 23 first; then the first entry of the track and field, or 16
+abbrev pub orNotThere : Found → LookupAnswer
+orNotThere (found.At o) = lookup.At o
+orNotThere found.Nothing = lookup.Refused (refusal 16 0)
+
+abbrev pub ifGood : Verdict → LookupAnswer → LookupAnswer
+ifGood good a = a
+ifGood (bad n) a = lookup.Refused (refusal 23 n)
+
+abbrev pub lookupIn : Book → ℕ → ℕ → LookupAnswer
+lookupIn b track field = ifGood (judge 0 0 (b .entries) (b .whole)) (orNotThere (firstIn track field (b .entries)))
+
+unfoldable pub lookupOf : List ℕ → ℕ → ℕ → LookupAnswer
+lookupOf s track field = lookupIn (bookOf s) track field
+
+-- what one pass collects: the first entry so far, and with it one more
+abbrev pub orFirst : Found → Found → Found
+orFirst (found.At o) later = found.At o
+orFirst found.Nothing later = later
+
+abbrev pub firstHere : ℕ → ℕ → Entry → Found
+firstHere track field e = pick (isOf track field e) (found.At (e .at)) found.Nothing

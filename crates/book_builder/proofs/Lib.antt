@@ -1,0 +1,5 @@
+pub mod Contracts
+pub mod Laws
+pub mod Once
+pub mod Same
+pub mod Sound

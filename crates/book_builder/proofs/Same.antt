@@ -1,0 +1,138 @@
+-- The book of a stream that passes the check: it is a good book, and lookup in it gives what seek gives in the stream, for every track and field.
+use Prim.Native.Nat.{ℕ, _*_, _^_, _<_, _≤_}
+use mathlib.Core.Path.{_≡_, refl, _∙_, ap}
+use mathlib.Core.Bool.{Bool, true, false}
+use mathlib.Core.List.{List, [], _∷_, _++_}
+use native.Mathlib.Omega.{arith}
+use lib.ListN.{length, take, drop}
+use lib.Seq.{take-append-seam, drop-append-seam}
+use lib.Dec.{eqb, ltb}
+use borrow.Author.Tests.{le-ltb}
+use Rattle.plate.specs.Choice.{pick}
+use Rattle.plate.specs.Plate.{refusal}
+use Rattle.plate.specs.declared.Refusal.{Refusal}
+use Rattle.number.proofs.Laws.{Bytes}
+use Rattle.media_type.specs.MediaType.{knownType}
+use Rattle.stream.specs.Stream.{Placed, packets, checkOf, carriesPiece, firstOf, seekOf, orNotThere}
+use Rattle.stream.specs.declared.Spot.{Spot}
+use Rattle.stream.specs.declared.Spot.the-variants as spot
+use Rattle.stream.specs.declared.CheckAnswer.{CheckAnswer}
+use Rattle.stream.specs.declared.CheckAnswer.the-variants as check
+use Rattle.stream.specs.declared.SeekAnswer.{SeekAnswer}
+use Rattle.stream.specs.declared.SeekAnswer.the-variants as seek
+use Rattle.book.specs.Book.{bytesOf, judge, good, bookOf, firstIn, lookupOf, orNotThere as orNoRecord}
+use Rattle.book.specs.declared.Found.{Found}
+use Rattle.book.specs.declared.Found.the-variants as found
+use Rattle.book.specs.declared.LookupAnswer.{LookupAnswer}
+use Rattle.book.specs.declared.LookupAnswer.the-variants as lookup
+use Rattle.book.proofs.Coding.{length-bytes, book-back, lookup-back}
+use Rattle.book_builder.specs.BookBuilder.{recorded, entryOf, entriesHere, entriesOf, entriesIn, inRoom, buildAnswer, builtIn}
+use Rattle.book_builder.specs.declared.BuildAnswer.the-variants as build
+use Rattle.book_builder.proofs.Sound.{sound}
+
+-- a lookup's answer as seek gives it: the offset, or the refusal
+abbrev pub asSeek : LookupAnswer → SeekAnswer
+asSeek (lookup.At o) = seek.At o
+asSeek (lookup.Refused r) = seek.Refused r
+
+abbrev spotOf : Found → Spot
+spotOf (found.At o) = spot.At o
+spotOf found.Nothing = spot.Nothing
+
+-- one packet: it carries the field of the track where its record is of that track and field
+first-with : (track field : ℕ) (x : Placed) (xs : List Placed) → spotOf (firstIn track field (entriesOf xs)) ≡ firstOf track field xs
+    → spotOf (firstIn track field (entriesHere (x .at) (x .piece) ++ entriesOf xs)) ≡ pick (carriesPiece track field (x .piece)) (spot.At (x .at)) (firstOf track field xs)
+unfolding entriesHere recorded carriesPiece firstIn
+first-with track field x xs i =
+    go (eqb (x .piece .role) 0xBF) (knownType (x .piece .kind)) (eqb (x .piece .track) track) (eqb (x .piece .field) field) refl refl
+  where
+    go : (a k b d : Bool) → eqb (x .piece .track) track ≡ b → eqb (x .piece .field) field ≡ d
+        → spotOf (firstIn track field (pick (pick a k false) (entryOf (x .at) (x .piece) ∷ []) [] ++ entriesOf xs))
+        ≡ pick (pick a (pick b (pick d k false) false) false) (spot.At (x .at)) (firstOf track field xs)
+    go true true true true p q = rw (p, q)
+    go true true true false p q = rw (p, q) i
+    go true true false d p q = rw p i
+    go true false true true p q = i
+    go true false true false p q = i
+    go true false false d p q = i
+    go false k b d p q = i
+
+first-same : (track field : ℕ) (xs : List Placed) → spotOf (firstIn track field (entriesOf xs)) ≡ firstOf track field xs
+unfolding entriesOf firstIn firstOf
+first-same track field [] = refl
+first-same track field (x ∷ xs) = first-with track field x xs (first-same track field xs)
+
+answer-same : (a : Found) → asSeek (orNoRecord a) ≡ orNotThere (spotOf a)
+answer-same (found.At o) = refl
+answer-same found.Nothing = refl
+
+first-in : (s : List ℕ) (track field : ℕ) → spotOf (firstIn track field (entriesIn s)) ≡ firstOf track field (packets s .list)
+unfolding entriesIn
+first-in s track field = first-same track field (packets s .list)
+
+-- a book is good: no record of it is bad, and nothing else stands in it
+abbrev pub GoodBook : List ℕ → Type 0
+GoodBook book = judge 0 0 (bookOf book .entries) (bookOf book .whole) ≡ good
+
+-- what an answer of n records tells: the stream passes the check, and n is the number of its records
+record Told (s : List ℕ) (n : ℕ) : Type 0 where
+  packets : ℕ
+  passed : checkOf s ≡ check.Packets packets
+  many : n ≡ length (entriesIn s)
+
+told : (l s : List ℕ) (n : ℕ) → buildAnswer l s ≡ build.Records n → Told s n
+unfolding buildAnswer
+told l s n = go (checkOf s) (ltb (length l) (16 * length (entriesIn s))) refl refl
+  where
+    go : (a : CheckAnswer) (t : Bool) → checkOf s ≡ a → ltb (length l) (16 * length (entriesIn s)) ≡ t → inRoom (length l) (length (entriesIn s)) a ≡ build.Records n → Told s n
+    go (check.Refused r) t p q e = absurd (let z : _≡_ {A = ℕ} 0 1 = cc in omega arith)
+    go (check.Packets k) t p q e = by t (rw q at e)
+      where
+        by : (t : Bool) → pick t (build.Refused (refusal 13 0)) (build.Records (length (entriesIn s))) ≡ build.Records n → Told s n
+        by true e = absurd (let z : _≡_ {A = ℕ} 0 1 = cc in omega arith)
+        by false e = record { packets = k; passed = p; many = cc }
+
+-- what stands in the buffer after an answer of n records: the records of the stream, at its start
+book-of : (l s : List ℕ) (n : ℕ) → buildAnswer l s ≡ build.Records n → take (16 * n) (builtIn l s) ≡ bytesOf (entriesIn s)
+unfolding builtIn
+book-of l s n e =
+    let a : 16 * n ≡ length (bytesOf (entriesIn s)) = omega (arith, length-bytes (entriesIn s), told l s n e .many) in
+    rw (e, a) (take-append-seam (bytesOf (entriesIn s)) (drop (length (bytesOf (entriesIn s))) l))
+
+-- a stream that passes the check is answered by the number of its records, where the buffer has room for them
+pub answered : (l s : List ℕ) (n : ℕ) → checkOf s ≡ check.Packets n → 16 * length (entriesIn s) ≤ length l → buildAnswer l s ≡ build.Records (length (entriesIn s))
+unfolding buildAnswer
+answered l s n e h = rw (e, le-ltb (length l) (16 * length (entriesIn s)) h)
+
+-- the bytes beyond the book stay
+pub beyond-stays : (l s : List ℕ) (n : ℕ) → buildAnswer l s ≡ build.Records n → drop (16 * n) (builtIn l s) ≡ drop (16 * n) l
+unfolding builtIn
+beyond-stays l s n e =
+    let a : 16 * n ≡ length (bytesOf (entriesIn s)) = omega (arith, length-bytes (entriesIn s), told l s n e .many) in
+    rw (e, a) (drop-append-seam (bytesOf (entriesIn s)) (drop (length (bytesOf (entriesIn s))) l))
+
+-- a refused build leaves every byte as it was
+pub refused-stays : (l s : List ℕ) (r : Refusal) → buildAnswer l s ≡ build.Refused r → builtIn l s ≡ l
+unfolding builtIn
+refused-stays l s r e = rw e
+
+-- s is what a slice lends: bytes, fewer than 2^64; l is the lent buffer
+module _ (s : List ℕ) (b : Bytes s) (small : length s < 2 ^ 64) where
+  pub records-good : GoodBook (bytesOf (entriesIn s))
+  records-good = rw (book-back (entriesIn s) (sound s b small .fit)) (sound s b small .judged)
+
+  -- for every stream that passes the check, lookup in its records gives what seek gives: the offset, or 16
+  pub records-same : (n : ℕ) → checkOf s ≡ check.Packets n → (track field : ℕ) → asSeek (lookupOf (bytesOf (entriesIn s)) track field) ≡ seekOf s track field
+  unfolding seekOf
+  records-same n e track field =
+      rw (e, lookup-back (entriesIn s) track field (sound s b small .fit), sound s b small .judged)
+      (answer-same (firstIn track field (entriesIn s)) ∙ ap orNotThere (first-in s track field))
+
+  module _ (l : List ℕ) (n : ℕ) (e : buildAnswer l s ≡ build.Records n) where
+    -- a built book is a good book
+    pub good-built : GoodBook (take (16 * n) (builtIn l s))
+    good-built = rw (book-of l s n e) records-good
+
+    -- lookup in a built book gives what seek gives
+    pub lookup-is-seek : (track field : ℕ) → asSeek (lookupOf (take (16 * n) (builtIn l s)) track field) ≡ seekOf s track field
+    lookup-is-seek track field = let t = told l s n e in rw (book-of l s n e) (records-same (t .packets) (t .passed) track field)
