@@ -24,7 +24,7 @@ unfoldable pub bytesOf : List Entry → List ℕ
 bytesOf [] = []
 bytesOf (e ∷ es) = recordBytes e ++ bytesOf es
 
--- the decoder: what stands at a place, a record where 16 bytes with the marks are there
+-- the decoder: what stands at a place, a record where 16 bytes with the marks are there; a short tail and a wrong mark are both no record
 unfoldable pub slotAt : List ℕ → ℕ → Slot
 slotAt s at =
     pick (ltb (length s - at) 16) slot.Broken
@@ -54,7 +54,7 @@ bookFrom s (suc f) at = pick (ltb at (length s)) (onSlot (bookFrom s f (at + 16)
 unfoldable pub bookOf : List ℕ → Book
 bookOf s = bookFrom s (suc (length s)) 0
 
--- as record n, behind one of an offset: ID up to 63, known type and, but for the first, an offset over that one's
+-- as record n, where `last` is the offset of the record before it: ID up to 63, known type and, but for record 0, an offset over the last
 unfoldable pub stands : ℕ → ℕ → Entry → Bool
 stands n last e = pick (ltb 63 (e .track)) false (pick (knownType (e .kind)) (pick (eqb n 0) true (ltb last (e .at))) false)
 
@@ -63,7 +63,7 @@ pub data Verdict : Type 0 where
   good : Verdict
   bad : ℕ → Verdict
 
--- n records passed, the latest of an offset: of two offsets that do not rise the later is bad; what is no record takes the number of those before it
+-- n records passed, the last at offset `last`: of two offsets that do not rise the later is bad; what is no record takes the number of those before it
 unfoldable pub judge : ℕ → ℕ → List Entry → Bool → Verdict
 judge n last [] whole = pick whole good (bad n)
 judge n last (e ∷ es) whole = pick (stands n last e) (judge (n + 1) (e .at) es whole) (bad n)
@@ -76,7 +76,7 @@ unfoldable pub firstIn : ℕ → ℕ → List Entry → Found
 firstIn track field [] = found.Nothing
 firstIn track field (e ∷ es) = pick (isOf track field e) (found.At (e .at)) (firstIn track field es)
 
--- 23 first; then the first entry of the track and field, or 16
+-- the first entry of the track and field, or 16
 abbrev pub orNotThere : Found → LookupAnswer
 orNotThere (found.At o) = lookup.At o
 orNotThere found.Nothing = lookup.Refused (refusal 16 0)
@@ -85,6 +85,7 @@ abbrev pub ifGood : Verdict → LookupAnswer → LookupAnswer
 ifGood good a = a
 ifGood (bad n) a = lookup.Refused (refusal 23 n)
 
+-- 23 first
 abbrev pub lookupIn : Book → ℕ → ℕ → LookupAnswer
 lookupIn b track field = ifGood (judge 0 0 (b .entries) (b .whole)) (orNotThere (firstIn track field (b .entries)))
 

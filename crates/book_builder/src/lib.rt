@@ -38,7 +38,7 @@ fn records_of(x: Piece, at: usize) -> usize
     0
 }
 
-// The number of records of a stream, up to the first fault of a header or content.
+// The number of records of a stream, up to EOS or to a packet that `piece_at` refuses.
 fn count(s: &[u8]) -> usize
     ensures { λ r. ⌜ r ≡ length (entriesIn (now (s .entry))) ⌝ }
 {
@@ -99,7 +99,7 @@ fn put_records(out: &mut [u8], to: usize, x: Piece, at: usize) -> usize
     to
 }
 
-// Writes the records of a stream, up to the first fault of a header or content.
+// Writes the records of a stream, up to EOS or to a packet that `piece_at` refuses.
 fn write(out: &mut [u8], s: &[u8])
     requires { ⌜ 16 * length (entriesIn (now s)) ≤ length (now out) ⌝ }
     ensures { λ _. ⌜ now (out .exit) ≡ sets (now (out .entry)) 0 (bytesOf (entriesIn (now (s .entry)))) ⌝ }

@@ -10,8 +10,7 @@ use borrow.Author.Tests.{lt-ltb, le-leb, leb-true}
 use lib.ListN.{length, getD, take, drop, drop-of-length-le, length-drop}
 use lib.Seq.{drop-cons, take-all}
 use lib.Dec.{ltb, leb}
-use Rattle.plate.specs.Choice.{pick}
-use Rattle.scan.specs.Scan.{within}
+use Rattle.plate.specs.Choice.{pick, within}
 use Rattle.decimal.specs.Decimal.{digits, numeralOf, fractionOf, wholeOf, rateOf, times, plus, pointIn}
 use Rattle.decimal.specs.declared.Amount.{Amount}
 use Rattle.decimal.specs.declared.Amount.the-variants.{Of, Malformed}

@@ -3,8 +3,8 @@ use Prim.Native.Nat.{ℕ, _+_, _-_, _*_, _^_}
 use mathlib.Core.List.{List, [], _∷_}
 use lib.ListN.{length, take, drop}
 use lib.Dec.{ltb, leb}
-use Rattle.plate.specs.Choice.{pick}
-use Rattle.scan.specs.Scan.{runEnd, other, within}
+use Rattle.plate.specs.Choice.{pick, within}
+use Rattle.scan.specs.Scan.{runEnd, other}
 use Rattle.decimal.specs.declared.Amount.{Amount}
 use Rattle.decimal.specs.declared.Amount.the-variants.{Of, Malformed}
 

@@ -8,8 +8,7 @@ use lib.Dec.{ltb}
 use lib.IntN.{pos}
 use lib.Ieee as Ieee
 use lib.Ieee.{Float, binary64}
-use Rattle.plate.specs.Choice.{pick}
-use Rattle.scan.specs.Scan.{within}
+use Rattle.plate.specs.Choice.{pick, within}
 use Rattle.decimal.specs.Decimal.{wholeOf, rateOf}
 use Rattle.decimal.specs.declared.Amount.{Amount}
 use Rattle.parameter.specs.Table.{rowAt, required, rate, least, most}
