@@ -1,4 +1,5 @@
 // The order of packets in a stream: the progress so far and one piece give the next progress, the end, or a refusal. It looks at no byte.
+// It serves the stream check: `take_step` asks that its counts have room for one packet more, which a stream in memory always leaves.
 use piece::Piece;
 use plate::Refusal;
 ghost use mathlib.Core.Path.{_≡_};
