@@ -1,2 +1,3 @@
 pub mod Encode
 pub mod Map
+pub mod Shown
