@@ -18,9 +18,11 @@ use Rattle.packet.proofs.Laws.{accepts}
 use Rattle.locator.specs.Locator.{tableOf, positionOf}
 use Rattle.locator.specs.declared.LocatorAnswer.the-variants.{Table}
 use Rattle.locator.specs.declared.PositionAnswer.the-variants.{At, Refused as NoPosition}
-use Rattle.locator_writer.specs.Write.{headerOf, entriesOf, lengthOf, packetOf, allFit, mayWrite, refused, writeOf}
-use Rattle.locator_writer.specs.declared.WriteAnswer.the-variants.{Length}
-use Rattle.locator_writer.proofs.Laws.{length-header, length-packet}
+use Rattle.locator_writer.specs.Write.{entriesOf, lengthOf, packetOf, allFit, mayWrite, writeOf}
+use Rattle.packet_writer.specs.Write.{headerOf, refused}
+use Rattle.packet_writer.specs.declared.WriteAnswer.the-variants.{Length}
+use Rattle.locator_writer.proofs.Laws.{length-packet}
+use Rattle.packet_writer.proofs.Laws.{length-header}
 
 -- what may be written is within its bounds
 pub record May (step : ℕ) (ns : List ℕ) : Type 0 where

@@ -4,21 +4,17 @@ use mathlib.Core.Path.{_≡_, refl, _∙_}
 use mathlib.Core.Bool.{true, false}
 use mathlib.Core.List.{List, [], _∷_, _++_, append-assoc, append-nil}
 use native.Mathlib.Omega.{arith}
-use native.Mathlib.Nat.{zero-add}
 use native.Mathlib.Numerals.{add-one}
-use borrow.Rule.Slice.PartMut.{putMid}
+use lib.Dec.{ltb}
 use borrow.Author.Tests.{le-ltb, lt-ltb}
-use lib.ListN.{length, getD, take, drop, length-append, length-drop, drop-of-length-le}
-use lib.Seq.{sets, take-suc, drop-cons, length-take-le, sets-eq, drop-drop, take-all}
+use lib.ListN.{length, getD, take, drop, length-append}
+use lib.Seq.{sets, take-suc, drop-cons, length-take-le}
 use Rattle.number.specs.Number.{beBytes, leBytes}
 use Rattle.number.proofs.Laws.{length-leBytes}
 use Rattle.number.proofs.Stores.{sets-append}
-use Rattle.locator_writer.specs.Write.{headerOf, entriesOf, lengthOf, packetOf, allFit, mayWrite, over, refused, writeOf, written}
-use Rattle.locator_writer.specs.declared.WriteAnswer.the-variants.{Length}
-
-pub length-header : (kind len : ℕ) → length (headerOf kind len) ≡ 16
-unfolding headerOf beBytes
-length-header kind len = refl
+use Rattle.locator_writer.specs.Write.{entriesOf, lengthOf, packetOf, allFit, mayWrite, writeOf, written}
+use Rattle.packet_writer.specs.Write.{headerOf, over, refused}
+use Rattle.packet_writer.specs.declared.WriteAnswer.the-variants.{Length}
 
 pub length-entries : (ns : List ℕ) → length (entriesOf ns) ≡ 4 * length ns
 unfolding entriesOf
@@ -57,23 +53,15 @@ module _ (ns : List ℕ) (i : ℕ) (h : i < length ns) where
   unfolding allFit
   fit-off k = rw (drop-cons ns i 0 h) (simp (lt-ltb 0xFFFFFFFF (getD ns i 0) k))
 
--- a part from a place on that comes back with bytes at its start: the whole with those bytes at the place
-pub part-over : (l vs : List ℕ) (at : ℕ) → at + length vs ≤ length l
-    → putMid at (length l - at) l (sets (take (length l - at) (drop at l)) 0 vs) ≡ over l at vs
-part-over l vs at h =
-    let k : length (drop at l) ≤ length l - at = simp length-drop (omega arith) in
-    rw (take-all (length l - at) (drop at l) k, drop-of-length-le (drop at l) k, append-nil, sets-eq vs (drop at l) 0 (simp length-drop (omega arith)))
-    (simp (zero-add, drop-drop, append-assoc))
-
 -- the three outcomes
 module _ (out : List ℕ) (at step : ℕ) (ns : List ℕ) where
   pub barred : mayWrite step ns ≡ false → (writeOf out at step ns ≡ refused 24) × (written out at step ns ≡ out)
   unfolding writeOf written
   barred e = simp e (refl, refl)
 
-  pub no-room : mayWrite step ns ≡ true → length out - at < lengthOf ns → (writeOf out at step ns ≡ refused 13) × (written out at step ns ≡ out)
+  pub no-room : mayWrite step ns ≡ true → ltb (length out - at) (lengthOf ns) ≡ true → (writeOf out at step ns ≡ refused 13) × (written out at step ns ≡ out)
   unfolding writeOf written
-  no-room e h = simp (e, lt-ltb (length out - at) (lengthOf ns) h) (refl, refl)
+  no-room e h = simp (e, h) (refl, refl)
 
   pub wrote : mayWrite step ns ≡ true → at + lengthOf ns ≤ length out
       → (writeOf out at step ns ≡ Length (lengthOf ns)) × (written out at step ns ≡ over out at (packetOf step ns))

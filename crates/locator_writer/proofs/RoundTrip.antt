@@ -2,21 +2,21 @@
 use Prim.Native.Nat.{ℕ, _+_, _*_, _/_, _<_, _≤_}
 use mathlib.Core.Path.{_≡_, sym, _∙_, ap}
 use mathlib.Core.Bool.{true}
-use mathlib.Core.List.{List, _++_, append-assoc}
+use mathlib.Core.List.{List}
 use native.Mathlib.Omega.{arith}
 use native.Mathlib.Nat.{mul-div-cancel}
 use borrow.Author.Tests.{le-ltb, ne-eqb}
-use lib.ListN.{length, getD, take, drop, length-append, length-drop}
-use lib.Seq.{length-take-le, take-at, drop-at}
+use lib.ListN.{length, getD, take, drop}
 use Rattle.plate.specs.Plate.{refusal}
 use Rattle.packet.specs.Packet.{packetAt, headerAt}
 use Rattle.packet.specs.declared.PacketAnswer.the-variants.{Whole}
-use Rattle.packet.proofs.Edge.{anywhere}
+use Rattle.packet_writer.specs.Write.{over}
+use Rattle.packet_writer.proofs.Laws.{framed, header-stands}
 use Rattle.locator.specs.Locator.{tableAt, positionAt}
 use Rattle.locator.specs.declared.LocatorAnswer.the-variants.{Table}
 use Rattle.locator.specs.declared.PositionAnswer.the-variants.{At, Refused as NoPosition}
 use Rattle.locator_writer.specs.Write.{lengthOf, packetOf, mayWrite, writeOf, written}
-use Rattle.locator_writer.specs.declared.WriteAnswer.the-variants.{Length, Refused}
+use Rattle.packet_writer.specs.declared.WriteAnswer.the-variants.{Length, Refused}
 use Rattle.locator_writer.proofs.Laws.{length-packet, wrote}
 use Rattle.locator_writer.proofs.Back.{may, all-small, small-all, table, position, past, header, answered}
 use contract.Lifetimes.{Lfts}
@@ -45,31 +45,28 @@ round-trip out at step ns n e =
     let a = answered out at step ns n e in
     let m = may step ns (a .may) in
     let p = packetOf step ns in
-    let q = take at out in
-    let r = drop (at + length p) out in
-    let w = wrote out at step ns (a .may) (a .room) .1 in
-    let s : written out at step ns ≡ q ++ (p ++ r) = w ∙ append-assoc q p r in
-    let room = a .room in
-    let lq : length q ≡ at = length-take-le at out (omega arith) in
     let lp = length-packet step ns in
-    let h : headerAt (q ++ (p ++ r)) at ≡ Whole (record { kind = 0xFC; len = lengthOf ns }) = rw lq at (anywhere q (p ++ r) _ (header step ns m r)) in
-    let b : take (lengthOf ns) (drop at (q ++ (p ++ r))) ≡ p = rw (drop-at q (p ++ r) at lq) (take-at p r (lengthOf ns) lp) in
+    let lens = a .lens in
+    let room = a .room in
+    let w = wrote out at step ns (a .may) (a .room) .1 in
+    let f = framed out at p (omega arith) in
+    let now = over out at p in
+    let h : headerAt now at ≡ Whole (record { kind = 0xFC; len = lengthOf ns }) = header-stands out at p (omega arith) _ (header step ns m) in
+    let b : take (lengthOf ns) (drop at now) ≡ p = ap (λ (k : ℕ). take k (drop at now)) (sym lp) ∙ f .stands in
     let some = m .some in
     let back : (k : ℕ) → k * step / step ≡ k = λ k. mul-div-cancel k some in
-    let pos : (d : ℕ) → d / step < length ns → positionAt (q ++ (p ++ r)) at d ≡ At (1024 * getD ns (d / step) 0) = λ d g. simp (h, b, position step ns m d g) in
-    let lens = a .lens in
+    let pos : (d : ℕ) → d / step < length ns → positionAt now at d ≡ At (1024 * getD ns (d / step) 0) = λ d g. simp (h, b, position step ns m d g) in
     let g : at + length p ≡ at + n = omega arith in
-    let l : length (q ++ p) ≡ at + n = rw length-append (omega arith) in
-    rw s
+    rw w
     record {
       long = a .lens;
       table = simp (h, b, table step ns m);
       position = pos;
       entry = λ k g. rw (back k) at (pos (k * step) (rw (back k) g));
       past = λ d g. simp (h, b, past step ns m d g);
-      before = take-at q (p ++ r) at lq;
-      after = rw (← append-assoc q p r) (drop-at (q ++ p) r (at + n) l ∙ ap (λ (k : ℕ). drop k out) g);
-      lengths = rw (length-append, length-append, length-drop) (omega arith);
+      before = f .before;
+      after = ap (λ (k : ℕ). drop k now) (sym g) ∙ f .after ∙ ap (λ (k : ℕ). drop k out) g;
+      lengths = f .lengths;
     }
 
 -- nothing is cut: what is written lies within its field, so that a number over 32 bits is always refused

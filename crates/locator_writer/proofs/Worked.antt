@@ -3,8 +3,9 @@ use mathlib.Core.Path.{_≡_, refl}
 use mathlib.Core.List.{[], _∷_}
 use lib.ListN.{replicate}
 use Rattle.number.specs.Number.{beBytes, leBytes}
-use Rattle.locator_writer.specs.Write.{headerOf, entriesOf, packetOf, allFit, mayWrite, refused, writeOf, written}
-use Rattle.locator_writer.specs.declared.WriteAnswer.the-variants.{Length}
+use Rattle.locator_writer.specs.Write.{entriesOf, packetOf, allFit, mayWrite, writeOf, written}
+use Rattle.packet_writer.specs.Write.{headerOf, refused}
+use Rattle.packet_writer.specs.declared.WriteAnswer.the-variants.{Length}
 
 -- the packet of the bench reading
 pub as-read : packetOf 40 (4194304 ∷ [])

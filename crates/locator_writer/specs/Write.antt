@@ -1,19 +1,14 @@
 -- Writing a field locator table (RDD 14, clause 6 and Table 2, clause 7.2 and Table 14; 01, "Writers" and "FLT and media"):
 -- the bytes of the packet, the answer, and what the buffer then holds.
-use Prim.Native.Nat.{ℕ, _+_, _-_, _*_}
+use Prim.Native.Nat.{ℕ, _+_, _*_}
 use mathlib.Core.List.{List, [], _∷_, _++_}
 use mathlib.Core.Bool.{Bool, true, false}
-use lib.ListN.{length, take, drop}
+use lib.ListN.{length}
 use lib.Dec.{ltb, eqb}
 use Rattle.plate.specs.Choice.{pick}
-use Rattle.plate.specs.Plate.{refusal}
-use Rattle.number.specs.Number.{beBytes, leBytes}
-use Rattle.locator_writer.specs.declared.WriteAnswer.{WriteAnswer}
-use Rattle.locator_writer.specs.declared.WriteAnswer.the-variants.{Length, Refused}
-
--- clause 6: the leader 00 00 00 00 01, the type, the length with the header, four reserved bytes, the trailer E1 E2; most significant byte first
-unfoldable pub headerOf : ℕ → ℕ → List ℕ
-headerOf kind len = beBytes 5 0x0000000001 ++ (kind ∷ []) ++ beBytes 4 len ++ beBytes 4 0 ++ beBytes 2 0xE1E2
+use Rattle.number.specs.Number.{leBytes}
+use Rattle.packet_writer.specs.Write.{headerOf, refused, ifRoom, after}
+use Rattle.packet_writer.specs.declared.WriteAnswer.{WriteAnswer}
 
 -- Table 14: the entries, four bytes each, least significant first
 unfoldable pub entriesOf : List ℕ → List ℕ
@@ -37,23 +32,11 @@ allFit (n ∷ ns) = pick (ltb 0xFFFFFFFF n) false (allFit ns)
 unfoldable pub mayWrite : ℕ → List ℕ → Bool
 mayWrite step ns = pick (eqb step 0) false (pick (ltb 0xFFFFFFFF step) false (pick (ltb 1000 (length ns)) false (allFit ns)))
 
--- the place of a writer's refusals is 0
-abbrev pub refused : ℕ → WriteAnswer
-refused n = Refused (refusal n 0)
-
--- 24; then 13 where the buffer has fewer bytes from the place on than the packet, a place beyond the buffer too; else the packet's length
+-- 24, then 13; else the packet's length
 unfoldable pub writeOf : List ℕ → ℕ → ℕ → List ℕ → WriteAnswer
 writeOf out at step ns =
-    pick (mayWrite step ns) (pick (ltb (length out - at) (lengthOf ns)) (refused 13) (Length (lengthOf ns))) (refused 24)
+    pick (mayWrite step ns) (ifRoom out at (lengthOf ns)) (refused 24)
 
--- bytes with others in the place of as many
-abbrev pub over : List ℕ → ℕ → List ℕ → List ℕ
-over out at bytes = take at out ++ bytes ++ drop (at + length bytes) out
-
--- a packet stands at its place if the answer is a length; a refused call changes nothing
-abbrev pub after : List ℕ → ℕ → List ℕ → WriteAnswer → List ℕ
-after out at bytes (Length n) = over out at bytes
-after out at bytes (Refused r) = out
-
+-- what the buffer then holds
 unfoldable pub written : List ℕ → ℕ → ℕ → List ℕ → List ℕ
 written out at step ns = after out at (packetOf step ns) (writeOf out at step ns)

@@ -1,17 +1,11 @@
 // The writer of field locator tables: an FLT packet at a place of the caller's outgoing buffer.
 // Step and offsets come 64 bits wide; what does not fit its 32 bits is refused, never cut. A refused call changes nothing.
-use plate::Refusal;
+use packet_writer::WriteAnswer;
 ghost use mathlib.Core.Path.{_≡_};
 ghost use Prim.Native.Nat.{_+_, _*_, _≤_};
 ghost use lib.ListN.{length};
 ghost use lib.Seq.{sets};
-ghost use Rattle.locator_writer.specs.Write.{allFit, mayWrite, headerOf, entriesOf, packetOf, writeOf, written};
-
-// The length of the packet written, or the refusal.
-pub enum WriteAnswer {
-    Length(usize),
-    Refused(Refusal),
-}
+ghost use Rattle.locator_writer.specs.Write.{allFit, mayWrite, entriesOf, packetOf, writeOf, written};
 
 // Whether every offset fits its four bytes.
 fn all_fit(offsets: &[u64]) -> bool
@@ -43,18 +37,6 @@ fn may_write(step: u64, offsets: &[u64]) -> bool
     all_fit(offsets)
 }
 
-// Writes a packet header.
-fn put_header(out: &mut [u8], kind: u8, len: usize)
-    requires { ⌜ 16 ≤ length (now out) ⌝ }
-    ensures { λ _. ⌜ now (out .exit) ≡ sets (now (out .entry)) 0 (headerOf kind len) ⌝ }
-{
-    number::put_be(out, 0, 1, 5);
-    out[5] = kind;
-    number::put_be(out, 6, len, 4);
-    number::put_be(out, 10, 0, 4);
-    number::put_be(out, 14, 0xE1E2, 2);
-}
-
 // Writes the entries, from a place on.
 fn put_entries(out: &mut [u8], at: usize, offsets: &[u64])
     requires { ⌜ at + 4 * length (now offsets) ≤ length (now out) ⌝ }
@@ -72,7 +54,7 @@ fn put_packet(out: &mut [u8], step: u64, offsets: &[u64])
     requires { ⌜ 24 + 4 * length (now offsets) ≤ length (now out) ⌝ }
     ensures { λ _. ⌜ now (out .exit) ≡ sets (now (out .entry)) 0 (packetOf step (now (offsets .entry))) ⌝ }
 {
-    put_header(out, packet::FLT, 24 + 4 * offsets.len());
+    packet_writer::put_header(out, packet::FLT, 24 + 4 * offsets.len());
     number::put_le(out, 16, step as usize, 4);
     number::put_le(out, 20, offsets.len(), 4);
     put_entries(out, 24, offsets);
@@ -84,10 +66,7 @@ pub fn write(out: &mut [u8], at: usize, step: u64, offsets: &[u64]) -> WriteAnsw
 {
     if may_write(step, offsets) {
         let len = 24 + 4 * offsets.len();
-        if out.len() < at {
-            return WriteAnswer::Refused(plate::refuse(plate::ROOM, 0));
-        }
-        if out.len() - at < len {
+        if packet_writer::lacks_room(out.len(), at, len) {
             return WriteAnswer::Refused(plate::refuse(plate::ROOM, 0));
         }
         put_packet(&mut out[at..], step, offsets);

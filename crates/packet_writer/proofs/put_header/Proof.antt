@@ -1,10 +1,10 @@
 use borrow.Author.Needs.{needs}
-use Rattle.locator_writer.proofs.put_header.Statement.{statement}
-use Rattle.locator_writer.proofs.put_header.Tie as tie
+use Rattle.packet_writer.proofs.put_header.Statement.{statement}
+use Rattle.packet_writer.proofs.put_header.Tie as tie
 use native.Mathlib.Omega.{arith}
 use lib.ListN.{length-set}
 use Rattle.number.specs.Number.{beBytes}
-use Rattle.locator_writer.specs.Write.{headerOf}
+use Rattle.packet_writer.specs.Write.{headerOf}
 
 put-be-requires : tie.Need-put-be-requires
 put-be-requires c κs = search needs
