@@ -5,6 +5,8 @@ use Rattle.answer.proofs.bare.Kinds as bare-kinds
 use Rattle.answer.proofs.bare.Reads as bare-reads
 use Rattle.answer.proofs.value_at.Kinds as value-at-kinds
 use Rattle.answer.proofs.value_at.Reads as value-at-reads
+use Rattle.answer.proofs.is_allowed.Kinds as is-allowed-kinds
+use Rattle.answer.proofs.is_allowed.Reads as is-allowed-reads
 use Rattle.answer.proofs.code_at.Kinds as code-at-kinds
 use Rattle.answer.proofs.code_at.Reads as code-at-reads
 use Rattle.answer.proofs.is_null.Kinds as is-null-kinds
@@ -19,6 +21,9 @@ bare-once κs a x y s t p q = p ∙ sym q
 
 pub value-at-once : OneAnswer 1 value-at-kinds.ps value-at-kinds.r value-at-reads.Post
 value-at-once κs a x y s t p q = p ∙ sym q
+
+pub is-allowed-once : OneAnswer 0 is-allowed-kinds.ps is-allowed-kinds.r is-allowed-reads.Post
+is-allowed-once κs a x y s t p q = p ∙ sym q
 
 pub code-at-once : OneAnswer 1 code-at-kinds.ps code-at-kinds.r code-at-reads.Post
 code-at-once κs a x y s t p q = p ∙ sym q

@@ -89,7 +89,7 @@ fn is_line_code(n: u32) -> bool
 }
 
 // Whether Table 6 gives a number a meaning under a tag.
-fn is_allowed(tag: u8, n: u32) -> bool
+pub fn is_allowed(tag: u8, n: u32) -> bool
     ensures { λ r. ⌜ r ≡ allowed tag n ⌝ }
 {
     if tag == 0x50 {

@@ -1,0 +1,6 @@
+pub mod Ids
+pub mod Laws
+pub mod Once
+pub mod Packet
+pub mod PutTracks
+pub mod Puts

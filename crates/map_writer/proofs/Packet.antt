@@ -1,0 +1,216 @@
+-- The packet put together from its runs, and the outcomes of a call.
+use Prim.Native.Nat.{ℕ, _+_, _-_, _%_, _<_, _≤_}
+use mathlib.Core.Path.{_≡_, refl, sym, _∙_, ap}
+use mathlib.Core.Bool.{Bool, true, false}
+use mathlib.Core.List.{List, [], _∷_, _++_, append-assoc}
+use native.Mathlib.Omega.{arith}
+use native.Mathlib.Nat.{zero-add}
+use borrow.Author.Tests.{eqb-true, ne-eqb, le-ltb, lt-ltb}
+use lib.ListN.{length, set, replicate, length-append}
+use lib.Seq.{sets}
+use lib.Dec.{eqb, ltb}
+use Rattle.plate.specs.Choice.{pick}
+use Rattle.number.specs.Number.{beBytes}
+use Rattle.number.proofs.Laws.{length-beBytes}
+use Rattle.number.proofs.Stores.{sets-append}
+use Rattle.items.specs.Items.{bytesOf}
+use Rattle.packet_writer.specs.Write.{headerOf, over, refused, ifRoom}
+use Rattle.packet_writer.specs.declared.WriteAnswer.the-variants.{Length}
+use Rattle.map.specs.Encode as encode
+use Rattle.map.specs.Encode.{padding, packetLength, sectionBytes, front, encode}
+use Rattle.map.proofs.Encoded.{front-length, packet-length}
+use Rattle.map_writer.specs.Given.{materialSlots, tracksGiven}
+use Rattle.map_writer.specs.Sizes.{slotsSize, tracksSize, tracksBytes}
+use Rattle.map_writer.specs.Write.{slotsFault, graver, tracksFault, idsFault, faultOf, itemsOf, partsOf, packetOf, materialLength, tracksLength, writeOf, written}
+use Rattle.map_writer.proofs.Laws.{none-graver, slots-under}
+use Rattle.map_writer.proofs.Puts.{slots-length}
+use Rattle.map_writer.proofs.PutTracks.{tracks-length}
+
+-- an input without fault
+pub record Clean (text ms ts : List ℕ) : Type 0 where
+  pub words : length ms ≡ 18
+  pub whole : length ts % 23 ≡ 0
+  pub material : slotsFault text (materialSlots ms) ≡ 0
+  pub tracks : tracksFault text (tracksGiven ts) ≡ 0
+  pub ids : idsFault [] (tracksGiven ts) ≡ 0
+
+pub clean : (text ms ts : List ℕ) → faultOf text ms ts ≡ 0 → Clean text ms ts
+unfolding faultOf
+clean text ms ts = go (eqb (length ms) 18) refl (eqb (length ts % 23) 0) refl
+  where
+    a : ℕ
+    a = slotsFault text (materialSlots ms)
+
+    b : ℕ
+    b = tracksFault text (tracksGiven ts)
+
+    d : ℕ
+    d = idsFault [] (tracksGiven ts)
+
+    go : (x : Bool) → eqb (length ms) 18 ≡ x → (y : Bool) → eqb (length ts % 23) 0 ≡ y → _≡_ {A = ℕ} (pick x (pick y (graver (graver a b) d) 24) 24) 0 → Clean text ms ts
+    go true e true f h =
+        let g = none-graver (graver a b) d h in
+        let k = none-graver a b (g .0) in
+        record { words = eqb-true (length ms) 18 e; whole = eqb-true (length ts % 23) 0 f; material = k .0; tracks = k .1; ids = g .1 }
+    go true e false f h = absurd (omega arith)
+    go false e y f h = absurd (omega arith)
+
+-- a run after what stands from 0 on
+run-more : (a b l : List ℕ) (n : ℕ) → length a ≡ n → sets (sets l 0 a) n b ≡ sets l 0 (a ++ b)
+run-more a b l n e = rw (← e) (rw zero-add at (sets-append a l 0 b))
+
+abbrev zeros : List ℕ
+zeros = 0 ∷ 0 ∷ 0 ∷ 0 ∷ []
+
+pub first-run : (l : List ℕ) (len : ℕ) → set (set (sets l 0 (headerOf 0xBC len)) 16 0xE0) 17 0xFF ≡ sets l 0 (front len zeros 0xFF)
+unfolding headerOf front beBytes
+first-run l len = refl
+
+module _ (l m t : List ℕ) (len pad : ℕ) where
+  abbrev x : ℕ
+  x = length m
+
+  abbrev y : ℕ
+  y = length t
+
+  abbrev a1 : List ℕ
+  a1 = front len zeros 0xFF
+
+  abbrev a2 : List ℕ
+  a2 = a1 ++ beBytes 2 x
+
+  abbrev a3 : List ℕ
+  a3 = a2 ++ m
+
+  abbrev a4 : List ℕ
+  a4 = a3 ++ beBytes 2 y
+
+  abbrev a5 : List ℕ
+  a5 = a4 ++ t
+
+  l1 : length a1 ≡ 18
+  l1 = front-length len zeros 0xFF refl
+
+  l2 : length a2 ≡ 20
+  l2 = omega (arith, length-append a1 (beBytes 2 x), length-beBytes 2 x, l1)
+
+  l3 : length a3 ≡ 20 + x
+  l3 = omega (arith, length-append a2 m, l2)
+
+  l4 : length a4 ≡ 22 + x
+  l4 = omega (arith, length-append a3 (beBytes 2 y), length-beBytes 2 y, l3)
+
+  l5 : length a5 ≡ 22 + x + y
+  l5 = omega (arith, length-append a4 t, l4)
+
+  together : a5 ++ replicate pad 0 ≡ a1 ++ (sectionBytes m t ++ replicate pad 0)
+  unfolding sectionBytes
+  together = simp append-assoc
+
+  pub runs : sets
+      (sets (sets (sets (sets (sets l 0 a1) 18 (beBytes 2 x)) 20 m) (20 + x) (beBytes 2 y)) (22 + x) t)
+      (22 + x + y)
+      (replicate pad 0)
+      ≡ sets l 0 (a1 ++ (sectionBytes m t ++ replicate pad 0))
+  runs =
+      rw (
+        run-more a1 (beBytes 2 x) l 18 l1,
+        run-more a2 m l 20 l2,
+        run-more a3 (beBytes 2 y) l (20 + x) l3,
+        run-more a4 t l (22 + x) l4,
+        run-more a5 (replicate pad 0) l (22 + x + y) l5,
+      )
+      (ap (sets l 0) together)
+
+-- the packet of an input
+module _ (text ms ts : List ℕ) where
+  abbrev pub m : List ℕ
+  m = bytesOf (itemsOf text (materialSlots ms))
+
+  abbrev pub t : List ℕ
+  t = tracksBytes text (tracksGiven ts)
+
+  pub packet-is : packetOf text ms ts ≡ encode.packetOf zeros 0xFF m t
+  unfolding packetOf partsOf encode tracksBytes
+  packet-is = refl
+
+  pub packet-long : length (packetOf text ms ts) ≡ packetLength m t
+  packet-long = ap length packet-is ∙ packet-length zeros 0xFF m t refl
+
+  module _ (c : Clean text ms ts) where
+    pub material-size : length m ≡ slotsSize (materialSlots ms)
+    material-size = slots-length text (materialSlots ms) (c .material)
+
+    pub tracks-size : length t ≡ tracksSize (tracksGiven ts)
+    tracks-size = tracks-length text (tracksGiven ts) (c .tracks)
+
+    pub packet-size : length (packetOf text ms ts) ≡ 22 + slotsSize (materialSlots ms) + tracksSize (tracksGiven ts) + padding (22 + slotsSize (materialSlots ms) + tracksSize (tracksGiven ts))
+    unfolding packetLength
+    packet-size = packet-long ∙ rw (material-size, tracks-size)
+
+    pub material-short : slotsSize (materialSlots ms) ≤ 65535
+    material-short = omega (arith, slots-under 6 ms 0 0x40)
+
+    -- the bytes that the writer puts are the packet
+    pub packet-runs : (l : List ℕ) (a b pad : ℕ) → a ≡ slotsSize (materialSlots ms) → b ≡ tracksSize (tracksGiven ts) → pad ≡ padding (22 + a + b)
+        → sets
+        (sets (sets (sets (sets (sets l 0 (front (22 + a + b + pad) zeros 0xFF)) 18 (beBytes 2 a)) 20 m) (20 + a) (beBytes 2 b)) (22 + a) t)
+        (22 + a + b)
+        (replicate pad 0)
+        ≡ sets l 0 (packetOf text ms ts)
+    unfolding packetLength encode.packetOf
+    packet-runs l a b pad e f g =
+        let p : a ≡ length m = e ∙ sym material-size in
+        let q : b ≡ length t = f ∙ sym tracks-size in
+        rw (g, p, q) (runs l m t (22 + length m + length t + padding (22 + length m + length t)) (padding (22 + length m + length t)) ∙ ap (sets l 0) (sym packet-is))
+
+-- the outcomes of a call
+module _ (out : List ℕ) (at : ℕ) (text ms ts : List ℕ) where
+  pub faulty : (n : ℕ) → n ≡ faultOf text ms ts → (n ≡ 0 → ⊥) → (writeOf out at text ms ts ≡ refused n) × (written out at text ms ts ≡ out)
+  unfolding writeOf written
+  faulty n e h = rw (← e) (simp (ne-eqb n 0 h) (refl, refl))
+
+  module _ (f : faultOf text ms ts ≡ 0) where
+    abbrev a : ℕ
+    a = slotsSize (materialSlots ms)
+
+    abbrev b : ℕ
+    b = tracksSize (tracksGiven ts)
+
+    abbrev pub len : ℕ
+    len = 22 + a + b + padding (22 + a + b)
+
+    short : materialLength (partsOf text ms ts) ≤ 65535
+    unfolding partsOf
+    short = let g = clean text ms ts f in let h = material-size text ms ts g in let k = material-short text ms ts g in omega arith
+
+    long : tracksLength (partsOf text ms ts) ≡ b
+    unfolding partsOf tracksBytes
+    long = tracks-size text ms ts (clean text ms ts f)
+
+    pub section-over : 65535 < b → (writeOf out at text ms ts ≡ refused 25) × (written out at text ms ts ≡ out)
+    unfolding writeOf written
+    section-over h =
+        simp (
+          f,
+          le-ltb 65535 (materialLength (partsOf text ms ts)) short,
+          lt-ltb 65535 (tracksLength (partsOf text ms ts)) (omega (arith, long)),
+        ) (refl, refl)
+
+    module _ (h : b ≤ 65535) where
+      answer-is : writeOf out at text ms ts ≡ ifRoom out at (length (packetOf text ms ts))
+      unfolding writeOf
+      answer-is =
+          simp (f, le-ltb 65535 (materialLength (partsOf text ms ts)) short, le-ltb 65535 (tracksLength (partsOf text ms ts)) (omega (arith, long)))
+
+      pub no-room : ltb (length out - at) len ≡ true → (writeOf out at text ms ts ≡ refused 13) × (written out at text ms ts ≡ out)
+      unfolding written
+      no-room e = simp (answer-is, packet-size text ms ts (clean text ms ts f), e) (refl, refl)
+
+      pub wrote : ltb (length out - at) len ≡ false → (writeOf out at text ms ts ≡ Length len) × (written out at text ms ts ≡ over out at (packetOf text ms ts))
+      unfolding written
+      wrote e =
+          let p = packet-size text ms ts (clean text ms ts f) in
+          let q : ltb (length out - at) (length (packetOf text ms ts)) ≡ false = rw p e in
+          let w : writeOf out at text ms ts ≡ Length (length (packetOf text ms ts)) = answer-is ∙ simp q in
+          (w ∙ ap Length p, rw w)

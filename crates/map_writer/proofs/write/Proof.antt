@@ -1,0 +1,135 @@
+use borrow.Author.Needs.{needs}
+use Rattle.map_writer.proofs.write.Statement.{statement}
+use Rattle.map_writer.proofs.write.Tie as tie
+use native.Mathlib.Omega.{arith}
+use mathlib.Core.Path.{_≡_, sym, _∙_, ap}
+use Prim.Native.Nat.{_+_}
+use lib.ListN.{length}
+use lib.ListN.{length-drop}
+use Rattle.packet_writer.specs.declared.WriteAnswer.the-variants.{Refused, Length}
+use Rattle.packet_writer.proofs.Laws.{part-over, has-room}
+use Rattle.map.specs.Encode.{padding}
+use Rattle.map.proofs.Encoded.{padding-under}
+use Rattle.map_writer.specs.Given.{materialSlots, tracksGiven}
+use Rattle.map_writer.specs.Sizes.{slotsSize, tracksSize}
+use Rattle.map_writer.specs.Write.{packetOf}
+use Rattle.map_writer.proofs.Laws.{slots-under, cap-under, cap-is}
+use Rattle.map_writer.proofs.Packet.{clean, packet-size, faulty, section-over, no-room, wrote}
+use lib.ListN.{length-take}
+
+fault-requires : tie.Need-fault-requires
+fault-requires c κs = search needs
+
+refuse-requires : tie.Need-refuse-requires
+refuse-requires c κs = search needs
+
+returns : tie.Need-returns
+returns c =
+    let a = c .before .before .before .before .before .before .before .args in
+    let w = faulty (a .out .now) (a .at) (a .text .now) (a .material .now) (a .tracks .now) _ (c .before .before .fault .ensures) (c .before .if1 .taken) in
+    (ap Refused (c .refuse .ensures) ∙ sym (w .0), sym (w .1))
+
+slots-size-requires : tie.Need-slots-size-requires
+slots-size-requires c κs = let g = clean _ _ _ (sym (c .before .fault .ensures) ∙ c .if1 .left) in (omega (arith, g .words), omega arith)
+
+tracks-size-requires : tie.Need-tracks-size-requires
+tracks-size-requires c κs = search needs
+
+refuse-requires-2 : tie.Need-refuse-requires-2
+refuse-requires-2 c κs = search needs
+
+returns-2 : tie.Need-returns-2
+returns-2 c =
+    let a = c .before .before .before .before .before .before .before .before .before .before .args in
+    let f = sym (c .before .before .before .before .before .fault .ensures) ∙ c .before .before .before .before .if1 .left in
+    let w = section-over (a .out .now) (a .at) (a .text .now) (a .material .now) (a .tracks .now) f (cap-under _ _ (c .before .before .tracks-size .ensures) (c .before .if2 .taken)) in
+    (ap Refused (c .refuse2 .ensures) ∙ sym (w .0), sym (w .1))
+
+add-used : tie.Need-add-used
+add-used c = let a = c .before .before .before .before .before .before .before .before .before .args in omega (arith, c .before .before .slots-size .ensures, slots-under 6 (a .material .now) 0 0x40)
+
+add-used-2 : tie.Need-add-used-2
+add-used-2 c = let a = c .before .before .before .before .before .before .before .before .before .args in omega (arith, c .before .before .slots-size .ensures, slots-under 6 (a .material .now) 0 0x40, c .if2 .left)
+
+padding-of-requires : tie.Need-padding-of-requires
+padding-of-requires c κs = search needs
+
+add-len : tie.Need-add-len
+add-len c =
+    let a = c .before .before .before .before .before .before .before .before .before .before .args in
+    omega (arith, c .before .before .before .slots-size .ensures, slots-under 6 (a .material .now) 0 0x40, c .before .if2 .left, c .padding-of .ensures, padding-under (22 + c .before .before .before .slots-size .result + c .before .before .tracks-size .result))
+
+lacks-room-requires : tie.Need-lacks-room-requires
+lacks-room-requires c κs = search needs
+
+refuse-requires-3 : tie.Need-refuse-requires-3
+refuse-requires-3 c κs = search needs
+
+returns-3 : tie.Need-returns-3
+returns-3 c =
+    let a = c .before .before .before .before .before .before .before .before .before .before .before .before .before .args in
+    let f = sym (c .before .before .before .before .before .before .before .before .fault .ensures) ∙ c .before .before .before .before .before .before .before .if1 .left in
+    let t = cap-is _ _ (c .before .before .before .before .before .tracks-size .ensures) (c .before .before .before .before .if2 .left) in
+    let e = rw (c .before .before .before .padding-of .ensures, c .before .before .before .before .before .before .slots-size .ensures, t) at (sym (c .before .before .lacks-room .ensures) ∙ c .before .if3 .taken) in
+    let w = no-room (a .out .now) (a .at) (a .text .now) (a .material .now) (a .tracks .now) f (omega (arith, c .before .before .before .before .if2 .left, t)) e in
+    (ap Refused (c .refuse3 .ensures) ∙ sym (w .0), sym (w .1))
+
+sub-put-packet : tie.Need-sub-put-packet
+sub-put-packet c =
+    let h = has-room _ _ (22 + c .before .before .before .before .before .slots-size .result + c .before .before .before .before .tracks-size .result + c .before .before .padding-of .result) (sym (c .before .lacks-room .ensures) ∙ c .if3 .left) in
+    omega arith
+
+part-put-packet-start : tie.Need-part-put-packet-start
+part-put-packet-start c =
+    let h = has-room _ _ (22 + c .before .before .before .before .before .slots-size .result + c .before .before .before .before .tracks-size .result + c .before .before .padding-of .result) (sym (c .before .lacks-room .ensures) ∙ c .if3 .left) in
+    omega arith
+
+part-put-packet-end : tie.Need-part-put-packet-end
+part-put-packet-end c = search needs
+
+put-packet-requires : tie.Need-put-packet-requires
+put-packet-requires c κs =
+    let a = c .before .before .before .before .before .before .before .before .before .before .before .before .before .args in
+    let h = has-room (length (a .out .now)) (a .at) (22 + c .before .before .before .before .before .before .slots-size .result + c .before .before .before .before .before .tracks-size .result + c .before .before .before .padding-of .result) (sym (c .before .before .lacks-room .ensures) ∙ c .before .if3 .left) in
+    let t = cap-is _ _ (c .before .before .before .before .before .tracks-size .ensures) (c .before .before .before .before .if2 .left) in
+    (rw (← c .before .before .before .padding-of .ensures) (simp (length-take, length-drop) (omega arith)), omega (arith, c .before .before .before .before .before .before .slots-size .ensures, slots-under 6 (a .material .now) 0 0x40), c .before .before .before .before .if2 .left, c .before .before .before .before .before .before .slots-size .ensures, t, sym (c .before .before .before .before .before .before .before .before .fault .ensures) ∙ c .before .before .before .before .before .before .before .if1 .left)
+
+same-length : tie.Need-same-length
+same-length c = search needs
+
+returns-4 : tie.Need-returns-4
+returns-4 c =
+    let a = c .before .before .before .before .before .before .before .before .before .before .before .before .before .before .before .before .args in
+    let f = sym (c .before .before .before .before .before .before .before .before .before .before .before .fault .ensures) ∙ c .before .before .before .before .before .before .before .before .before .before .if1 .left in
+    let t = cap-is _ _ (c .before .before .before .before .before .before .before .before .tracks-size .ensures) (c .before .before .before .before .before .before .before .if2 .left) in
+    let q : 22 + c .before .before .before .before .before .before .before .before .before .slots-size .result + c .before .before .before .before .before .before .before .before .tracks-size .result + c .before .before .before .before .before .before .padding-of .result ≡ 22 + slotsSize (materialSlots (a .material .now)) + tracksSize (tracksGiven (a .tracks .now)) + padding (22 + slotsSize (materialSlots (a .material .now)) + tracksSize (tracksGiven (a .tracks .now))) = rw (c .before .before .before .before .before .before .padding-of .ensures, c .before .before .before .before .before .before .before .before .before .slots-size .ensures, t) in
+    let e = sym (c .before .before .before .before .before .lacks-room .ensures) ∙ c .before .before .before .before .if3 .left in
+    let h = has-room (length (a .out .now)) (a .at) _ e in
+    let g = packet-size (a .text .now) (a .material .now) (a .tracks .now) (clean _ _ _ f) in
+    let w = wrote (a .out .now) (a .at) (a .text .now) (a .material .now) (a .tracks .now) f (omega (arith, c .before .before .before .before .before .before .before .if2 .left, t)) (rw q at e) in
+    (sym (w .0 ∙ sym (ap Length q)), rw (c .before .before .put-packet .ensures) (part-over (a .out .now) (packetOf (a .text .now) (a .material .now) (a .tracks .now)) (a .at) (omega arith)) ∙ sym (w .1))
+
+pub write-spec : {M : Type 1} → statement M
+write-spec =
+    tie.close
+    (tie.spec
+    fault-requires
+    refuse-requires
+    returns
+    slots-size-requires
+    tracks-size-requires
+    refuse-requires-2
+    returns-2
+    add-used
+    add-used-2
+    padding-of-requires
+    add-len
+    lacks-room-requires
+    refuse-requires-3
+    returns-3
+    sub-put-packet
+    part-put-packet-start
+    part-put-packet-end
+    put-packet-requires
+    same-length
+    returns-4)
