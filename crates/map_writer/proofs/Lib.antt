@@ -4,3 +4,4 @@ pub mod Once
 pub mod Packet
 pub mod PutTracks
 pub mod Puts
+pub mod Worked
