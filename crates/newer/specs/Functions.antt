@@ -1,0 +1,75 @@
+-- Demand 3 through the functions `map::read` and `map::track`, over their contracts as the checker reads them (`Reads.Post`). Proved in proofs/Functions.antt.
+use Prim.Native.Nat.{ℕ, zero, suc, _+_, _≤_}
+use mathlib.Core.Path.{_≡_}
+use mathlib.Core.List.{List, [], _∷_}
+use lib.ListN.{length}
+use contract.Lifetimes.{Lfts}
+use borrow.Fn.Kinds.{endedOf, Dens}
+use denote.Triple.Clauses.{AtExit}
+use Rattle.plate.specs.Plate.{refusal}
+use Rattle.plate.specs.declared.Refusal.{Refusal}
+use Rattle.items.specs.Items.{Item}
+use Rattle.map.specs.declared.MapAnswer.{MapAnswer}
+use Rattle.map.specs.declared.MapAnswer.the-variants as map
+use Rattle.map.specs.declared.TrackAnswer.{TrackAnswer}
+use Rattle.map.specs.declared.TrackAnswer.the-variants as track
+use Rattle.map.specs.Shown.{MaterialShown, TrackShown, Shown, materialShown, trackShown, shownIn}
+use Rattle.map.proofs.read.Kinds as read-kinds
+use Rattle.map.proofs.read.Reads as read-reads
+use Rattle.map.proofs.track.Kinds as track-kinds
+use Rattle.map.proofs.track.Reads as track-reads
+use Rattle.newer.specs.Strike.{strike, Boundary, setIn}
+use Rattle.newer.specs.Demand.{Accepted, There, Unknown, lengthAt}
+
+-- x is an outcome that the contract of `read` allows on a slice with the bytes m, at position 0
+pub record ReadGives (m : List ℕ) (x : MapAnswer) : Type 0 where
+  pub lifetimes : Lfts 1
+  pub arguments : Dens lifetimes read-kinds.ps
+  pub exit : AtExit (endedOf 1 read-kinds.ps read-kinds.r) lifetimes
+  pub bytes : arguments .0 .now ≡ m
+  pub position : arguments .1 .0 ≡ 0
+  pub post : read-reads.Post lifetimes arguments x exit
+
+-- y is an outcome that the contract of `track` allows there, for the track of number k
+pub record TrackGives (m : List ℕ) (k : ℕ) (y : TrackAnswer) : Type 0 where
+  pub lifetimes : Lfts 1
+  pub arguments : Dens lifetimes track-kinds.ps
+  pub exit : AtExit (endedOf 1 track-kinds.ps track-kinds.r) lifetimes
+  pub bytes : arguments .0 .now ≡ m
+  pub position : arguments .1 .0 ≡ 0
+  pub number : arguments .1 .1 .0 ≡ k
+  pub post : track-reads.Post lifetimes arguments y exit
+
+-- an outcome, with the bytes that its places point at for the places
+pub data MapSeen : Type 0 where
+  says : ℕ → MaterialShown → MapSeen
+  refused : Refusal → MapSeen
+
+abbrev pub mapSeen : List ℕ → MapAnswer → MapSeen
+mapSeen m (map.Says a) = says (a .count) (materialShown m (a .material))
+mapSeen m (map.Refused r) = refused r
+
+pub data TrackSeen : Type 0 where
+  holds : TrackShown → TrackSeen
+  refused : Refusal → TrackSeen
+
+abbrev pub trackSeen : List ℕ → TrackAnswer → TrackSeen
+trackSeen m (track.Record t) = holds (trackShown m t)
+trackSeen m (track.Refused r) = TrackSeen.refused r
+
+-- the k-th record, from 0; 16 where there is none
+unfoldable pub kthSeen : ℕ → List TrackShown → TrackSeen
+kthSeen k [] = TrackSeen.refused (refusal 16 0)
+kthSeen zero (t ∷ ts) = holds t
+kthSeen (suc k) (t ∷ ts) = kthSeen k ts
+
+-- whatever the two functions give on m is the one answer
+pub record Answers (m : List ℕ) (answer : Shown) : Type 0 where
+  pub read : (x : MapAnswer) → ReadGives m x → mapSeen m x ≡ says (answer .count) (answer .material)
+  pub track : (k : ℕ) (y : TrackAnswer) → TrackGives m k y → trackSeen m y ≡ kthSeen k (answer .tracks)
+
+pub record Functions : Type 0 where
+  -- on an accepted map, and on its remainder
+  pub one-answer : (m : List ℕ) → Accepted m → Answers m (shownIn m) × Answers (strike m) (shownIn m)
+  -- on the map with an unknown item set in
+  pub set-in : (m : List ℕ) → Accepted m → (b : Boundary) (i : Item) → There b m → Unknown b i → lengthAt b m + 2 + length (i .value) ≤ 65535 → Answers (setIn b i m) (shownIn m)
