@@ -153,9 +153,14 @@ pub set-bytes : (k : ℕ) (i : Item) (is : List Item) → AllBytes (bytesOf (i �
 unfolding bytesOf setAt
 set-bytes zero i is h b = (h .0, (h .1 .0, bytes-join (i .value) (bytesOf is) (bytes-left (i .value) [] (h .1 .1)) b))
 set-bytes (suc k) i [] h b = h
-set-bytes (suc k) i (x ∷ is) h b =
-    (b .0, (b .1 .0, bytes-join (x .value) (bytesOf (setAt k i is)) (bytes-left (x .value) (bytesOf is) (b .1 .1))
-    (set-bytes k i is h (bytes-right (x .value) (bytesOf is) (b .1 .1)))))
+set-bytes (suc k) i (x ∷ is) h b = (
+  b .0,
+  (
+    b .1 .0,
+    bytes-join (x .value) (bytesOf (setAt k i is)) (bytes-left (x .value) (bytesOf is) (b .1 .1))
+        (set-bytes k i is h (bytes-right (x .value) (bytesOf is) (b .1 .1))),
+  ),
+)
 
 -- where every item of a tag stays, the tag is found as before
 pub kept-held : (tag : ℕ) (stays : Item → Bool) → ((i : Item) → i .tag ≡ tag → stays i ≡ true) → (q r : ℕ) (is : List Item) → heldOf (find tag q (kept stays is)) ≡ heldOf (find tag r is)

@@ -1,2 +1,4 @@
+pub mod Demand
 pub mod Items
+pub mod Parts
 pub mod Tracks

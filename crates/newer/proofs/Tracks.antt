@@ -242,9 +242,14 @@ struck-tracks-bytes (t ∷ ts) b = go (isListed (described t)) (struck-tracks-by
     go : (d : Bool) → AllBytes (tracks.bytesOf (map described (map struckTrack (listedOf ts)))) → AllBytes (tracks.bytesOf (map described (map struckTrack (pick d (t ∷ listedOf ts) (listedOf ts)))))
     go true h =
         let z = bytesOf (kept trackStays (t .items)) in
-        let later = tracks.bytesOf (map described (map struckTrack (listedOf ts))) in
-        (b .0, (b .1 .0, bytes-join (beBytes 2 (length z)) (z ++ later) (bytes-number 2 (length z))
-        (bytes-join z later (kept-bytes trackStays (t .items) (bytes-left s rest (bytes-right (beBytes 2 (length s)) (s ++ rest) (b .1 .1)))) h)))
+        let later = tracks.bytesOf (map described (map struckTrack (listedOf ts))) in (
+          b .0,
+          (
+            b .1 .0,
+            bytes-join (beBytes 2 (length z)) (z ++ later) (bytes-number 2 (length z))
+                (bytes-join z later (kept-bytes trackStays (t .items) (bytes-left s rest (bytes-right (beBytes 2 (length s)) (s ++ rest) (b .1 .1)))) h),
+          ),
+        )
     go false h = h
 
 pub set-tracks-bytes : (j k : ℕ) (i : Item) (ts : List TrackParts) → AllBytes (bytesOf (i ∷ [])) → AllBytes (tracks.bytesOf (map described ts))
