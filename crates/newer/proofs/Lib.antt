@@ -1,4 +1,5 @@
 pub mod Demand
+pub mod Functions
 pub mod Items
 pub mod Parts
 pub mod Tracks

@@ -23,8 +23,9 @@ use Rattle.items.specs.declared.Verdict.{Verdict}
 use Rattle.items.specs.declared.Verdict.the-variants as verdict
 use Rattle.items.proofs.Split as items
 use Rattle.track_section.specs.Tracks as tracks
+use Rattle.track_section.specs.Tracks.{kthOf}
 use Rattle.track_section.proofs.Split as split
-use Rattle.map.specs.Map.{part, layoutOf, materialIn, tracksIn, mapVerdict, onVerdict, answerOf, mapFrom, mapAt, materialSays, listedIn}
+use Rattle.map.specs.Map.{part, layoutOf, materialIn, tracksIn, mapVerdict, onVerdict, answerOf, onKth, trackIn, mapFrom, mapAt, trackAt, materialSays, listedIn}
 use Rattle.map.specs.Encode.{MapParts, described, padding, sectionBytes, packetLength, front, packetOf, encode}
 use Rattle.map.specs.Said.{heldOf, materialSaid, listedOf, saidBy, partsOf, Good}
 use Rattle.map.specs.declared.Layout.{Layout}
@@ -173,6 +174,23 @@ pub read-accepted : (m : List ℕ) → headerAt m 0 ≡ packet.Whole (record { k
     → mapAt m 0 ≡ answer.Says (record { count = length (listedIn m); material = materialSays m })
 unfolding mapAt answerOf packetAt
 read-accepted m h v = rw (h, whole-part m (length m) refl, v)
+
+pub track-accepted : (m : List ℕ) (k : ℕ) → headerAt m 0 ≡ packet.Whole (record { kind = 0xBC; len = length m }) → mapVerdict m ≡ verdict.Accepted
+    → trackAt m 0 k ≡ onKth (kthOf k (listedIn m))
+unfolding trackAt trackIn packetAt
+track-accepted m k h v = rw (h, whole-part m (length m) refl, v)
+
+-- its header states its length
+pub accepted-header : (m : List ℕ) → Accepted m → headerAt m 0 ≡ packet.Whole (record { kind = 0xBC; len = length m })
+unfolding mapAt
+accepted-header m h = on (packetAt m 0 0xBC) refl (h .read)
+  where
+    on : (a : PacketAnswer) → packetAt m 0 0xBC ≡ a → mapFrom m 0 a ≡ answer.Says (h .says) → headerAt m 0 ≡ packet.Whole (record { kind = 0xBC; len = length m })
+    on (packet.Refused r) e f = absurd (let z : _≡_ {A = ℕ} 0 1 = cc in omega arith)
+    on (packet.Whole w) e f =
+        let t = typed m 0 0xBC w e in
+        let g = whole m 0 w (t .0) in
+        t .0 ∙ rw (← t .1, ← h .alone, ← g .lens)
 
 -- and a map put together from good parts is one
 pub encoded-accepted : (p : MapParts) → Fit p → Good p → ByteParts p → Accepted (encode p)

@@ -1,0 +1,49 @@
+-- The proof of demand 3 through the functions: specs/Functions.antt has the statements.
+use Prim.Native.Nat.{ℕ, zero, suc, _+_, _≤_}
+use mathlib.Core.Path.{_≡_, refl, sym, _∙_, ap}
+use mathlib.Core.List.{List, [], _∷_, map}
+use lib.ListN.{length}
+use Rattle.packet.specs.Packet.{packetAt}
+use Rattle.packet.specs.declared.PacketAnswer.{PacketAnswer}
+use Rattle.packet.specs.declared.PacketAnswer.the-variants as packet
+use Rattle.items.specs.Items.{Item}
+use Rattle.track_section.specs.Tracks.{Placed, recordOf, kthOf}
+use Rattle.map.specs.Map.{onKth, materialSays, listedIn, trackIn, mapAt, trackFrom, trackAt}
+use Rattle.map.specs.Shown.{Shown, TrackShown, materialShown, trackShown, shownIn}
+use Rattle.map.specs.declared.MapAnswer.{MapAnswer}
+use Rattle.map.specs.declared.TrackAnswer.{TrackAnswer}
+use Rattle.newer.specs.Strike.{strike, Boundary, setIn}
+use Rattle.newer.specs.Demand.{Accepted, There, Unknown, lengthAt}
+use Rattle.newer.specs.Functions.{ReadGives, TrackGives, MapSeen, says, mapSeen, TrackSeen, trackSeen, kthSeen, Answers, Functions}
+use Rattle.newer.proofs.Parts.{accepted-verdict, accepted-header, read-accepted, track-accepted}
+use Rattle.newer.proofs.Demand.{remainder-accepted, remainder-alike, set-in-alike}
+
+-- what the contracts allow is what the definitions give
+read-gives : (m : List ℕ) (x : MapAnswer) → ReadGives m x → x ≡ mapAt m 0
+read-gives m x g = rw (← g .bytes, ← g .position) (g .post)
+
+track-gives : (m : List ℕ) (k : ℕ) (y : TrackAnswer) → TrackGives m k y → y ≡ trackAt m 0 k
+track-gives m k y g = rw (← g .bytes, ← g .position, ← g .number) (g .post)
+
+kth-seen : (m : List ℕ) (k : ℕ) (xs : List Placed) → trackSeen m (onKth (kthOf k xs)) ≡ kthSeen k (map (λ x. trackShown m (recordOf x)) xs)
+unfolding kthOf kthSeen
+kth-seen m zero [] = refl
+kth-seen m (suc k) [] = refl
+kth-seen m zero (x ∷ xs) = refl
+kth-seen m (suc k) (x ∷ xs) = kth-seen m k xs
+
+-- on an accepted map the functions give what the map shows
+pub answers : (m : List ℕ) → Accepted m → Answers m (shownIn m)
+unfolding shownIn
+answers m h =
+    record {
+      read = λ x g. rw (read-gives m x g, read-accepted m (accepted-header m h) (accepted-verdict m h));
+      track = λ k y g. rw (track-gives m k y g, track-accepted m k (accepted-header m h) (accepted-verdict m h)) (kth-seen m k (listedIn m));
+    }
+
+pub functions : Functions
+functions =
+    record {
+      one-answer = λ m h. (answers m h, rw (remainder-alike m h) (answers (strike m) (remainder-accepted m h)));
+      set-in = λ m h b i there u room. let s = set-in-alike m h b i there u room in rw (s .1) (answers (setIn b i m) (s .0));
+    }
