@@ -1,3 +1,4 @@
+pub mod Bench
 pub mod Demand
 pub mod Functions
 pub mod Items

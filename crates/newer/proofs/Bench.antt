@@ -1,0 +1,158 @@
+-- The bench map M of 01 under demand 3: it is accepted, with `7E 01 55` set in it is 01's other map, whose remainder it is, and another map answers otherwise.
+use Prim.Native.Nat.{ℕ, _+_, _<_, _≤_}
+use mathlib.Core.Path.{_≡_, refl, sym, _∙_, ap}
+use mathlib.Core.Bool.{Bool, true, false}
+use mathlib.Core.List.{List, [], _∷_}
+use native.Mathlib.Omega.{arith}
+use lib.ListN.{length}
+use lib.Dec.{ltb}
+use borrow.Author.Tests.{ltb-true}
+use Rattle.plate.specs.Choice.{pick}
+use Rattle.number.specs.Number.{be, beBytes}
+use Rattle.number.proofs.Bytes.{AllBytes, by-number}
+use Rattle.media_type.specs.MediaType.{knownType}
+use Rattle.text.specs.Text.{textOk}
+use Rattle.packet.specs.Packet.{headerAt, sizedAt, packetAt}
+use Rattle.items.specs.Items as items
+use Rattle.items.specs.Items.{Item}
+use Rattle.items.specs.Judge as judge
+use Rattle.items.specs.Find as find
+use Rattle.items.specs.declared.Part.the-variants as part
+use Rattle.answer.specs.Answer as answer
+use Rattle.answer.specs.declared.Value.the-variants as value
+use Rattle.answer.specs.declared.Code.{Code}
+use Rattle.answer.specs.declared.Code.the-variants as code
+use Rattle.track_section.specs.Tracks as tracks
+use Rattle.map.specs.Map as map
+use Rattle.map.specs.Encode as encode
+use Rattle.map.specs.Shown as shown
+use Rattle.map.specs.Shown.{Shown, TrackShown, shownIn}
+use Rattle.map.specs.Said as said
+use Rattle.map.specs.declared.MapSays.{MapSays}
+use Rattle.newer.specs.Strike as strike
+use Rattle.newer.specs.Strike.{inTrack, setIn}
+use Rattle.newer.specs.Demand.{Accepted, Alike, There, Unknown, lengthAt}
+use Rattle.newer.proofs.Items.{never}
+use Rattle.newer.proofs.Demand.{demand}
+
+-- header, payload's front, first field 0; the track section, track 1 of type 10 with the name A1 and the rate not available; a pad byte
+abbrev pub M : List ℕ
+M =
+    0x00 ∷ 0x00 ∷ 0x00 ∷ 0x00 ∷ 0x01 ∷ 0xBC ∷ 0x00 ∷ 0x00 ∷ 0x00 ∷ 0x2C ∷ 0x00 ∷ 0x00 ∷ 0x00 ∷ 0x00 ∷ 0xE1 ∷ 0xE2
+    ∷ 0xE0 ∷ 0xFF ∷ 0x00 ∷ 0x06 ∷ 0x41 ∷ 0x04 ∷ 0x00 ∷ 0x00 ∷ 0x00 ∷ 0x00
+    ∷ 0x00 ∷ 0x0F ∷ 0x8A ∷ 0xC1 ∷ 0x00 ∷ 0x0B ∷ 0x4C ∷ 0x03 ∷ 0x41 ∷ 0x31 ∷ 0x00 ∷ 0x50 ∷ 0x04 ∷ 0xFF ∷ 0xFF ∷ 0xFF ∷ 0xFE ∷ 0x00 ∷ []
+
+-- M with `7E 01 55` after the rate: length 30, section 12, track 0E, two pad bytes
+abbrev pub newer : List ℕ
+newer =
+    0x00 ∷ 0x00 ∷ 0x00 ∷ 0x00 ∷ 0x01 ∷ 0xBC ∷ 0x00 ∷ 0x00 ∷ 0x00 ∷ 0x30 ∷ 0x00 ∷ 0x00 ∷ 0x00 ∷ 0x00 ∷ 0xE1 ∷ 0xE2
+    ∷ 0xE0 ∷ 0xFF ∷ 0x00 ∷ 0x06 ∷ 0x41 ∷ 0x04 ∷ 0x00 ∷ 0x00 ∷ 0x00 ∷ 0x00
+    ∷ 0x00 ∷ 0x12 ∷ 0x8A ∷ 0xC1 ∷ 0x00 ∷ 0x0E ∷ 0x4C ∷ 0x03 ∷ 0x41 ∷ 0x31 ∷ 0x00 ∷ 0x50 ∷ 0x04 ∷ 0xFF ∷ 0xFF ∷ 0xFF ∷ 0xFE ∷ 0x7E ∷ 0x01 ∷ 0x55 ∷ 0x00 ∷ 0x00 ∷ []
+
+-- M with rate 9
+abbrev pub reserved : List ℕ
+reserved =
+    0x00 ∷ 0x00 ∷ 0x00 ∷ 0x00 ∷ 0x01 ∷ 0xBC ∷ 0x00 ∷ 0x00 ∷ 0x00 ∷ 0x2C ∷ 0x00 ∷ 0x00 ∷ 0x00 ∷ 0x00 ∷ 0xE1 ∷ 0xE2
+    ∷ 0xE0 ∷ 0xFF ∷ 0x00 ∷ 0x06 ∷ 0x41 ∷ 0x04 ∷ 0x00 ∷ 0x00 ∷ 0x00 ∷ 0x00
+    ∷ 0x00 ∷ 0x0F ∷ 0x8A ∷ 0xC1 ∷ 0x00 ∷ 0x0B ∷ 0x4C ∷ 0x03 ∷ 0x41 ∷ 0x31 ∷ 0x00 ∷ 0x50 ∷ 0x04 ∷ 0x00 ∷ 0x00 ∷ 0x00 ∷ 0x09 ∷ 0x00 ∷ []
+
+-- and its remainder: M without a rate, and three pad bytes
+abbrev pub unrated : List ℕ
+unrated =
+    0x00 ∷ 0x00 ∷ 0x00 ∷ 0x00 ∷ 0x01 ∷ 0xBC ∷ 0x00 ∷ 0x00 ∷ 0x00 ∷ 0x28 ∷ 0x00 ∷ 0x00 ∷ 0x00 ∷ 0x00 ∷ 0xE1 ∷ 0xE2
+    ∷ 0xE0 ∷ 0xFF ∷ 0x00 ∷ 0x06 ∷ 0x41 ∷ 0x04 ∷ 0x00 ∷ 0x00 ∷ 0x00 ∷ 0x00
+    ∷ 0x00 ∷ 0x09 ∷ 0x8A ∷ 0xC1 ∷ 0x00 ∷ 0x05 ∷ 0x4C ∷ 0x03 ∷ 0x41 ∷ 0x31 ∷ 0x00 ∷ 0x00 ∷ 0x00 ∷ 0x00 ∷ []
+
+-- numbers that are bytes, by a computed test
+bytesAre : List ℕ → Bool
+bytesAre [] = true
+bytesAre (b ∷ s) = pick (ltb b 256) (bytesAre s) false
+
+bytes-are : (s : List ℕ) → bytesAre s ≡ true → AllBytes s
+unfolding bytesAre
+bytes-are [] e = tt
+bytes-are (b ∷ s) e = go (ltb b 256) refl e (bytes-are s)
+  where
+    go : (t : Bool) → ltb b 256 ≡ t → pick t (bytesAre s) false ≡ true → (bytesAre s ≡ true → AllBytes s) → (b < 256) × AllBytes s
+    go true q e rest = (ltb-true _ _ q, rest e)
+    go false q e rest = never (sym e)
+
+-- first field 0 and one listed track, in all of them
+abbrev answer-1 : MapSays
+answer-1 =
+    record {
+      count = 1;
+      material =
+          record {
+            name = part.Absent;
+            first = value.Is 0;
+            last = value.Absent;
+            «mark_in» = value.Absent;
+            «mark_out» = value.Absent;
+            size = value.Absent;
+          };
+    }
+
+pub M-accepted : Accepted M
+unfolding bytesAre be headerAt sizedAt packetAt knownType textOk items.split items.sectionOf items.sizeOf judge.formOf judge.isKnown judge.faultOf judge.countsAs judge.has judge.judgeItems judge.verdictOf find.find answer.valueOf answer.materialOf tracks.split tracks.tracksOf tracks.trackVerdict tracks.endVerdict tracks.judgeTracks tracks.tracksVerdict tracks.isListed tracks.listed map.afterMaterial map.layoutOf map.bothVerdict map.sectionsVerdict map.mapVerdict map.materialSays map.listedIn map.answerOf map.mapAt
+M-accepted = record { bytes = λ i. by-number M (bytes-are M refl) i .fits; alone = refl; says = answer-1; read = refl }
+
+pub newer-accepted : Accepted newer
+unfolding bytesAre be headerAt sizedAt packetAt knownType textOk items.split items.sectionOf items.sizeOf judge.formOf judge.isKnown judge.faultOf judge.countsAs judge.has judge.judgeItems judge.verdictOf find.find answer.valueOf answer.materialOf tracks.split tracks.tracksOf tracks.trackVerdict tracks.endVerdict tracks.judgeTracks tracks.tracksVerdict tracks.isListed tracks.listed map.afterMaterial map.layoutOf map.bothVerdict map.sectionsVerdict map.mapVerdict map.materialSays map.listedIn map.answerOf map.mapAt
+newer-accepted = record { bytes = λ i. by-number newer (bytes-are newer refl) i .fits; alone = refl; says = answer-1; read = refl }
+
+pub reserved-accepted : Accepted reserved
+unfolding bytesAre be headerAt sizedAt packetAt knownType textOk items.split items.sectionOf items.sizeOf judge.formOf judge.isKnown judge.faultOf judge.countsAs judge.has judge.judgeItems judge.verdictOf find.find answer.valueOf answer.materialOf tracks.split tracks.tracksOf tracks.trackVerdict tracks.endVerdict tracks.judgeTracks tracks.tracksVerdict tracks.isListed tracks.listed map.afterMaterial map.layoutOf map.bothVerdict map.sectionsVerdict map.mapVerdict map.materialSays map.listedIn map.answerOf map.mapAt
+reserved-accepted = record { bytes = λ i. by-number reserved (bytes-are reserved refl) i .fits; alone = refl; says = answer-1; read = refl }
+
+-- `7E 01 55` set in after the two items of the first track gives 01's map
+abbrev pub item : Item
+item = record { tag = 0x7E; value = 0x55 ∷ [] }
+
+pub item-set-in : setIn (inTrack 0 2) item M ≡ newer
+unfolding strike.setIn strike.setInParts strike.setInTrack strike.setAt said.partsOf said.opened encode.encode encode.packetOf encode.front encode.sectionBytes encode.packetLength encode.padding encode.described beBytes be items.split items.sectionOf items.bytesOf tracks.split tracks.tracksOf tracks.bytesOf map.layoutOf map.afterMaterial
+item-set-in = refl
+
+item-there : There (inTrack 0 2) M
+unfolding said.partsOf said.opened be items.split items.sectionOf tracks.split tracks.tracksOf map.layoutOf map.afterMaterial
+item-there = omega arith
+
+item-unknown : Unknown (inTrack 0 2) item
+unfolding judge.formOf judge.isKnown bytesAre
+item-unknown = record { unknown = refl; tag = omega arith; long = omega arith; bytes = λ i. by-number (0x55 ∷ []) (bytes-are (0x55 ∷ []) refl) i .fits }
+
+item-room : lengthAt (inTrack 0 2) M + 2 + length (item .value) ≤ 65535
+unfolding be map.layoutOf map.afterMaterial
+item-room = omega arith
+
+-- as the fourth theorem has it
+pub newer-alike : Accepted newer × Alike M newer
+newer-alike = rw item-set-in at (demand .set-in M M-accepted (inTrack 0 2) item item-there item-unknown item-room)
+
+-- and M is its remainder; the remainder of M with rate 9 has no rate
+pub newer-struck : strike.strike newer ≡ M
+unfolding strike.strike strike.struck strike.struckTrack strike.kept strike.materialStays strike.trackStays strike.isReserved said.listedOf said.partsOf said.opened encode.encode encode.packetOf encode.front encode.sectionBytes encode.packetLength encode.padding encode.described beBytes be items.split items.sectionOf items.bytesOf judge.formOf judge.isKnown answer.valueOf answer.codeOf answer.allowed judge.has tracks.split tracks.tracksOf tracks.bytesOf tracks.isListed knownType map.layoutOf map.afterMaterial
+newer-struck = refl
+
+pub reserved-struck : strike.strike reserved ≡ unrated
+unfolding strike.strike strike.struck strike.struckTrack strike.kept strike.materialStays strike.trackStays strike.isReserved said.listedOf said.partsOf said.opened encode.encode encode.packetOf encode.front encode.sectionBytes encode.packetLength encode.padding encode.described beBytes be items.split items.sectionOf items.bytesOf judge.formOf judge.isKnown answer.valueOf answer.codeOf answer.allowed judge.has tracks.split tracks.tracksOf tracks.bytesOf tracks.isListed knownType map.layoutOf map.afterMaterial
+reserved-struck = refl
+
+-- M and M with rate 9 do not answer alike: the rate is not available, or absent
+rateOf : List TrackShown → Code
+rateOf [] = code.Absent
+rateOf (t ∷ ts) = t .rate
+
+M-rate : rateOf (shownIn M .tracks) ≡ code.NotAvailable
+unfolding rateOf be knownType items.split items.sectionOf find.find answer.valueOf answer.allowed answer.codeOf answer.isNull answer.materialOf answer.trackOf judge.has tracks.split tracks.tracksOf tracks.isListed tracks.listed tracks.recordOf map.afterMaterial map.layoutOf map.materialSays map.listedIn shown.materialShown shown.trackShown shown.shownIn
+M-rate = refl
+
+reserved-rate : rateOf (shownIn reserved .tracks) ≡ code.Absent
+unfolding rateOf be knownType items.split items.sectionOf find.find answer.valueOf answer.allowed answer.codeOf answer.isNull answer.materialOf answer.trackOf judge.has tracks.split tracks.tracksOf tracks.isListed tracks.listed tracks.recordOf map.afterMaterial map.layoutOf map.materialSays map.listedIn shown.materialShown shown.trackShown shown.shownIn
+reserved-rate = refl
+
+pub unlike : Alike M reserved → ⊥
+unlike e =
+    let c : code.NotAvailable ≡ code.Absent = sym M-rate ∙ ap (λ (s : Shown). rateOf (s .tracks)) e ∙ reserved-rate in
+    let z : _≡_ {A = ℕ} 0 1 = cc in
+    omega arith
