@@ -1,7 +1,7 @@
 -- The proof of demand 3 through the functions: specs/Functions.antt has the statements.
 use Prim.Native.Nat.{ℕ, zero, suc, _+_, _≤_}
 use mathlib.Core.Path.{_≡_, refl, sym, _∙_, ap}
-use mathlib.Core.List.{List, [], _∷_, map}
+use mathlib.Core.List.{List, [], _∷_, _++_, map}
 use lib.ListN.{length}
 use Rattle.packet.specs.Packet.{packetAt}
 use Rattle.packet.specs.declared.PacketAnswer.{PacketAnswer}
@@ -15,14 +15,15 @@ use Rattle.map.specs.declared.TrackAnswer.{TrackAnswer}
 use Rattle.newer.specs.Strike.{strike, Boundary, setIn}
 use Rattle.newer.specs.Demand.{Accepted, There, Unknown, lengthAt}
 use Rattle.newer.specs.Functions.{ReadGives, TrackGives, MapSeen, says, mapSeen, TrackSeen, trackSeen, kthSeen, Answers, Functions}
-use Rattle.newer.proofs.Parts.{accepted-verdict, accepted-header, read-accepted, track-accepted}
+use Rattle.newer.proofs.Parts.{accepted-verdict, accepted-header}
+use Rattle.newer.proofs.Within.{read-there, track-there}
 use Rattle.newer.proofs.Demand.{remainder-accepted, remainder-alike, set-in-alike}
 
 -- what the contracts allow is what the definitions give
-read-gives : (m : List ℕ) (x : MapAnswer) → ReadGives m x → x ≡ mapAt m 0
+read-gives : (m : List ℕ) (x : MapAnswer) (g : ReadGives m x) → x ≡ mapAt (g .before ++ (m ++ g .after)) (length (g .before))
 read-gives m x g = rw (← g .bytes, ← g .position) (g .post)
 
-track-gives : (m : List ℕ) (k : ℕ) (y : TrackAnswer) → TrackGives m k y → y ≡ trackAt m 0 k
+track-gives : (m : List ℕ) (k : ℕ) (y : TrackAnswer) (g : TrackGives m k y) → y ≡ trackAt (g .before ++ (m ++ g .after)) (length (g .before)) k
 track-gives m k y g = rw (← g .bytes, ← g .position, ← g .number) (g .post)
 
 kth-seen : (m : List ℕ) (k : ℕ) (xs : List Placed) → trackSeen m (onKth (kthOf k xs)) ≡ kthSeen k (map (λ x. trackShown m (recordOf x)) xs)
@@ -37,8 +38,8 @@ pub answers : (m : List ℕ) → Accepted m → Answers m (shownIn m)
 unfolding shownIn
 answers m h =
     record {
-      read = λ x g. rw (read-gives m x g, read-accepted m (accepted-header m h) (accepted-verdict m h));
-      track = λ k y g. rw (track-gives m k y g, track-accepted m k (accepted-header m h) (accepted-verdict m h)) (kth-seen m k (listedIn m));
+      read = λ x g. rw (read-gives m x g ∙ read-there (g .before) m (g .after) (accepted-header m h) (accepted-verdict m h));
+      track = λ k y g. rw (track-gives m k y g ∙ track-there (g .before) m (g .after) (accepted-header m h) (accepted-verdict m h) k) (kth-seen m k (listedIn m));
     }
 
 pub functions : Functions

@@ -4,3 +4,4 @@ pub mod Functions
 pub mod Items
 pub mod Parts
 pub mod Tracks
+pub mod Within

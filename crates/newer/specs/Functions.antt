@@ -1,7 +1,7 @@
 -- Demand 3 through the functions `map::read` and `map::track`, over their contracts as the checker reads them (`Reads.Post`). Proved in proofs/Functions.antt.
 use Prim.Native.Nat.{ℕ, zero, suc, _+_, _≤_}
 use mathlib.Core.Path.{_≡_}
-use mathlib.Core.List.{List, [], _∷_}
+use mathlib.Core.List.{List, [], _∷_, _++_}
 use lib.ListN.{length}
 use contract.Lifetimes.{Lfts}
 use borrow.Fn.Kinds.{endedOf, Dens}
@@ -21,13 +21,15 @@ use Rattle.map.proofs.track.Reads as track-reads
 use Rattle.newer.specs.Strike.{strike, Boundary, setIn}
 use Rattle.newer.specs.Demand.{Accepted, There, Unknown, lengthAt}
 
--- x is an outcome that the contract of `read` allows on a slice with the bytes m, at position 0
+-- x is an outcome that the contract of `read` allows where the packet m stands, wherever that is in lent bytes
 pub record ReadGives (m : List ℕ) (x : MapAnswer) : Type 0 where
   pub lifetimes : Lfts 1
   pub arguments : Dens lifetimes read-kinds.ps
   pub exit : AtExit (endedOf 1 read-kinds.ps read-kinds.r) lifetimes
-  pub bytes : arguments .0 .now ≡ m
-  pub position : arguments .1 .0 ≡ 0
+  pub before : List ℕ
+  pub after : List ℕ
+  pub bytes : arguments .0 .now ≡ before ++ (m ++ after)
+  pub position : arguments .1 .0 ≡ length before
   pub post : read-reads.Post lifetimes arguments x exit
 
 -- y is an outcome that the contract of `track` allows there, for the track of number k
@@ -35,8 +37,10 @@ pub record TrackGives (m : List ℕ) (k : ℕ) (y : TrackAnswer) : Type 0 where
   pub lifetimes : Lfts 1
   pub arguments : Dens lifetimes track-kinds.ps
   pub exit : AtExit (endedOf 1 track-kinds.ps track-kinds.r) lifetimes
-  pub bytes : arguments .0 .now ≡ m
-  pub position : arguments .1 .0 ≡ 0
+  pub before : List ℕ
+  pub after : List ℕ
+  pub bytes : arguments .0 .now ≡ before ++ (m ++ after)
+  pub position : arguments .1 .0 ≡ length before
   pub number : arguments .1 .1 .0 ≡ k
   pub post : track-reads.Post lifetimes arguments y exit
 
