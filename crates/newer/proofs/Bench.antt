@@ -1,10 +1,9 @@
 -- The bench map M of 01 under demand 3: it is accepted, with `7E 01 55` set in it is 01's other map, whose remainder it is, and another map answers otherwise.
-use Prim.Native.Nat.{ℕ, _+_, _<_, _≤_}
+use Prim.Native.Nat.{ℕ, _<_}
 use mathlib.Core.Path.{_≡_, refl, sym, _∙_, ap}
 use mathlib.Core.Bool.{Bool, true, false}
 use mathlib.Core.List.{List, [], _∷_}
 use native.Mathlib.Omega.{arith}
-use lib.ListN.{length}
 use lib.Dec.{ltb}
 use borrow.Author.Tests.{ltb-true}
 use Rattle.plate.specs.Choice.{pick}
@@ -31,7 +30,7 @@ use Rattle.map.specs.Said as said
 use Rattle.map.specs.declared.MapSays.{MapSays}
 use Rattle.newer.specs.Strike as strike
 use Rattle.newer.specs.Strike.{inTrack, setIn}
-use Rattle.newer.specs.Demand.{Accepted, Alike, There, Unknown, lengthAt}
+use Rattle.newer.specs.Demand.{Accepted, Alike, There, Unknown, Room}
 use Rattle.newer.proofs.Items.{never}
 use Rattle.newer.proofs.Demand.{demand}
 
@@ -121,7 +120,7 @@ item-unknown : Unknown (inTrack 0 2) item
 unfolding judge.formOf judge.isKnown bytesAre
 item-unknown = record { unknown = refl; tag = omega arith; long = omega arith; bytes = λ i. by-number (0x55 ∷ []) (bytes-are (0x55 ∷ []) refl) i .fits }
 
-item-room : lengthAt (inTrack 0 2) M + 2 + length (item .value) ≤ 65535
+item-room : Room (inTrack 0 2) item M
 unfolding be map.layoutOf map.afterMaterial
 item-room = omega arith
 

@@ -1,17 +1,16 @@
 -- The proof of demand 3: specs/Demand.antt has the statements.
-use Prim.Native.Nat.{ℕ, _+_, _≤_, _<_}
-use mathlib.Core.Path.{_≡_, refl, sym, _∙_, ap}
-use mathlib.Core.List.{List, [], _∷_, _++_}
-use lib.ListN.{length}
+use Prim.Native.Nat.{ℕ}
+use mathlib.Core.Path.{_≡_, sym, _∙_, ap}
+use mathlib.Core.List.{List, [], _∷_}
 use Rattle.number.proofs.Bytes.{AllBytes, one-by-one, bytes-join}
 use Rattle.items.specs.Items.{Item, bytesOf}
 use Rattle.map.specs.Encode.{MapParts, encode}
-use Rattle.map.specs.Said.{saidBy, partsOf}
+use Rattle.map.specs.Said.{partsOf}
 use Rattle.map.proofs.Encoded.{Fit, parts-of-encoded}
 use Rattle.map.proofs.Said.{shown-said, shown-encoded}
 use Rattle.newer.specs.Strike.{struck, strike, Boundary, setInParts, setIn}
-use Rattle.newer.specs.Demand.{Accepted, Alike, There, Unknown, lengthAt, Demand}
-use Rattle.newer.proofs.Parts.{ByteParts, struck-good, struck-fit, struck-said, struck-again, struck-set, set-parts-good, struck-parts-bytes, set-parts-bytes, encoded-accepted, fit-parts, good-parts, byte-parts, set-fit, room-asked}
+use Rattle.newer.specs.Demand.{Accepted, Alike, There, Unknown, Room, Demand}
+use Rattle.newer.proofs.Parts.{struck-good, struck-fit, struck-said, struck-again, struck-set, set-parts-good, struck-parts-bytes, set-parts-bytes, encoded-accepted, fit-parts, good-parts, byte-parts, set-fit, room-asked}
 
 module _ (m : List ℕ) (h : Accepted m) where
   rest-fit : Fit (struck (partsOf m))
@@ -44,7 +43,7 @@ unfolding bytesOf
 item-bytes b i u = (u .tag, (u .long, bytes-join (i .value) [] (one-by-one (i .value) (λ n. record { fits = u .bytes n })) tt))
 
 module _ (m : List ℕ) (h : Accepted m) (b : Boundary) (i : Item) (there : There b m) where
-  module _ (u : Unknown b i) (room : lengthAt b m + 2 + length (i .value) ≤ 65535) where
+  module _ (u : Unknown b i) (room : Room b i m) where
     set-accepted : Accepted (setIn b i m)
     unfolding setIn
     set-accepted =
@@ -59,7 +58,7 @@ module _ (m : List ℕ) (h : Accepted m) (b : Boundary) (i : Item) (there : Ther
     pub set-in-alike : Accepted (setIn b i m) × Alike m (setIn b i m)
     set-in-alike = (set-accepted, same-alike m (setIn b i m) h set-accepted (sym set-struck))
 
-  pub room-needed : (n : List ℕ) → Accepted n → partsOf n ≡ setInParts b i (partsOf m) → lengthAt b m + 2 + length (i .value) ≤ 65535
+  pub room-needed : (n : List ℕ) → Accepted n → partsOf n ≡ setInParts b i (partsOf m) → Room b i m
   room-needed n k e = room-asked m h b i there (rw e at (fit-parts n k))
 
 pub demand : Demand

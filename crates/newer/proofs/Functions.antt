@@ -1,20 +1,16 @@
 -- The proof of demand 3 through the functions: specs/Functions.antt has the statements.
-use Prim.Native.Nat.{ℕ, zero, suc, _+_, _≤_}
-use mathlib.Core.Path.{_≡_, refl, sym, _∙_, ap}
+use Prim.Native.Nat.{ℕ, zero, suc}
+use mathlib.Core.Path.{_≡_, refl, _∙_}
 use mathlib.Core.List.{List, [], _∷_, _++_, map}
 use lib.ListN.{length}
-use Rattle.packet.specs.Packet.{packetAt}
-use Rattle.packet.specs.declared.PacketAnswer.{PacketAnswer}
-use Rattle.packet.specs.declared.PacketAnswer.the-variants as packet
-use Rattle.items.specs.Items.{Item}
 use Rattle.track_section.specs.Tracks.{Placed, recordOf, kthOf}
-use Rattle.map.specs.Map.{onKth, materialSays, listedIn, trackIn, mapAt, trackFrom, trackAt}
-use Rattle.map.specs.Shown.{Shown, TrackShown, materialShown, trackShown, shownIn}
+use Rattle.map.specs.Map.{onKth, listedIn, mapAt, trackAt}
+use Rattle.map.specs.Shown.{trackShown, shownIn}
 use Rattle.map.specs.declared.MapAnswer.{MapAnswer}
 use Rattle.map.specs.declared.TrackAnswer.{TrackAnswer}
-use Rattle.newer.specs.Strike.{strike, Boundary, setIn}
-use Rattle.newer.specs.Demand.{Accepted, There, Unknown, lengthAt}
-use Rattle.newer.specs.Functions.{ReadGives, TrackGives, MapSeen, says, mapSeen, TrackSeen, trackSeen, kthSeen, Answers, Functions}
+use Rattle.newer.specs.Strike.{strike, setIn}
+use Rattle.newer.specs.Demand.{Accepted}
+use Rattle.newer.specs.Functions.{ReadGives, TrackGives, trackSeen, kthSeen, Answers, Functions}
 use Rattle.newer.proofs.Parts.{accepted-verdict, accepted-header}
 use Rattle.newer.proofs.Within.{read-there, track-there}
 use Rattle.newer.proofs.Demand.{remainder-accepted, remainder-alike, set-in-alike}

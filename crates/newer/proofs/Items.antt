@@ -2,7 +2,7 @@
 use Prim.Native.Nat.{ℕ, zero, suc, _+_, _≤_}
 use mathlib.Core.Path.{_≡_, refl, sym, _∙_, ap}
 use mathlib.Core.Bool.{Bool, true, false, not}
-use mathlib.Core.List.{List, [], _∷_, _++_}
+use mathlib.Core.List.{List, [], _∷_}
 use native.Mathlib.Omega.{arith}
 use lib.ListN.{length}
 use lib.Dec.{eqb}
@@ -10,7 +10,7 @@ use borrow.Author.Tests.{eqb-true, eq-eqb, not-false}
 use Rattle.plate.specs.Choice.{pick, within}
 use Rattle.number.proofs.Bytes.{AllBytes, bytes-join, bytes-left, bytes-right}
 use Rattle.items.specs.Items.{Item, sizeOf, bytesOf}
-use Rattle.items.specs.Find.{Found, missing, found, find}
+use Rattle.items.specs.Find.{missing, found, find}
 use Rattle.items.specs.Judge.{bad, formOf, isKnown, faultOf, countsAs, has, judgeItems}
 use Rattle.items.specs.declared.Section.{Section}
 use Rattle.items.specs.declared.Section.the-variants as section
@@ -22,8 +22,7 @@ use Rattle.answer.specs.Answer.{valueOf, codeOf}
 use Rattle.answer.specs.declared.Code.{Code}
 use Rattle.answer.specs.declared.Code.the-variants as code
 use Rattle.map.specs.Said.{heldOf}
-use Rattle.map.proofs.Said.{held-anywhere, same-value}
-use Rattle.newer.specs.Strike.{kept, isReserved, materialStays, trackStays, setAt}
+use Rattle.newer.specs.Strike.{kept, isReserved, trackStays, setAt}
 
 -- no number is both
 pub never : {X : Type 0} → true ≡ false → X

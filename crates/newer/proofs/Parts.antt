@@ -1,43 +1,39 @@
 -- The parts of a map, struck and with an item set in; and an accepted map by its parts.
-use Prim.Native.Nat.{ℕ, suc, _+_, _-_, _≤_, _<_}
+use Prim.Native.Nat.{ℕ, suc, _+_, _-_, _<_}
 use mathlib.Core.Path.{_≡_, refl, sym, _∙_, ap}
-use mathlib.Core.Bool.{Bool, true, false}
+use mathlib.Core.Bool.{true, false}
 use mathlib.Core.List.{List, [], _∷_, _++_, map}
 use native.Mathlib.Omega.{arith}
-use lib.ListN.{length, getD, take, drop, replicate}
+use lib.ListN.{length, drop, replicate}
 use lib.Seq.{take-all}
-use Rattle.plate.specs.declared.Refusal.{Refusal}
-use Rattle.number.specs.Number.{be, beBytes}
+use Rattle.number.specs.Number.{beBytes}
 use Rattle.number.proofs.Bytes.{AllBytes, one-by-one, by-number, bytes-take, bytes-drop, bytes-join, bytes-number, bytes-zeros}
 use Rattle.number.proofs.Laws as number
 use Rattle.packet.specs.Packet.{packetAt, headerAt}
-use Rattle.packet.specs.declared.Packet.{Packet}
 use Rattle.packet.specs.declared.PacketAnswer.{PacketAnswer}
 use Rattle.packet.specs.declared.PacketAnswer.the-variants as packet
 use Rattle.packet.proofs.Laws.{typed, whole}
 use Rattle.items.specs.Items.{Item, bytesOf}
-use Rattle.items.specs.Judge.{formOf, isKnown, judgeItems}
+use Rattle.items.specs.Judge.{formOf, isKnown}
 use Rattle.items.specs.Find.{find}
 use Rattle.items.specs.declared.Section.the-variants as section
 use Rattle.items.specs.declared.Verdict.{Verdict}
 use Rattle.items.specs.declared.Verdict.the-variants as verdict
 use Rattle.items.proofs.Split as items
 use Rattle.track_section.specs.Tracks as tracks
-use Rattle.track_section.specs.Tracks.{kthOf}
 use Rattle.track_section.proofs.Split as split
-use Rattle.map.specs.Map.{part, layoutOf, materialIn, tracksIn, mapVerdict, onVerdict, answerOf, onKth, trackIn, mapFrom, mapAt, trackAt, materialSays, listedIn}
+use Rattle.map.specs.Map.{part, layoutOf, materialIn, tracksIn, mapVerdict, onVerdict, answerOf, mapFrom, mapAt, materialSays, listedIn}
 use Rattle.map.specs.Encode.{MapParts, described, padding, sectionBytes, packetLength, front, packetOf, encode}
 use Rattle.map.specs.Said.{heldOf, materialSaid, listedOf, saidBy, partsOf, Good}
 use Rattle.map.specs.declared.Layout.{Layout}
 use Rattle.map.specs.declared.Layout.the-variants.{Both, One, Neither}
-use Rattle.map.specs.declared.MapSays.{MapSays}
 use Rattle.map.specs.declared.MapAnswer.{MapAnswer}
 use Rattle.map.specs.declared.MapAnswer.the-variants as answer
 use Rattle.map.proofs.Encoded.{Fit, header-of-encoded}
-use Rattle.map.proofs.Parts.{material-bytes, tracks-bytes, material-under, tracks-under, parts-fit, parts-good, good-encoded}
+use Rattle.map.proofs.Parts.{material-bytes, tracks-bytes, parts-fit, parts-good, good-encoded}
 use Rattle.map.proofs.Said.{same-value}
-use Rattle.newer.specs.Strike.{kept, materialStays, struckTrack, struck, strike, Boundary, inMaterial, inTrack, setAt, setInTrack, setInParts, setIn}
-use Rattle.newer.specs.Demand.{Bytes, Accepted, sectionAt, lengthAt, There, Unknown}
+use Rattle.newer.specs.Strike.{kept, materialStays, struckTrack, struck, Boundary, inMaterial, inTrack, setAt, setInTrack, setInParts}
+use Rattle.newer.specs.Demand.{Bytes, Accepted, sectionAt, Room, There}
 use Rattle.newer.proofs.Items.{kept-again, kept-set, kept-good, set-good, kept-size, set-size, kept-bytes, set-bytes, kept-held}
 use Rattle.newer.proofs.Tracks.{struck-tracks-good, set-tracks-good, struck-tracks-said, struck-listed, struck-twice, struck-set-tracks, struck-tracks-size, set-tracks-size, struck-tracks-bytes, set-tracks-bytes}
 
@@ -175,11 +171,6 @@ pub read-accepted : (m : List ℕ) → headerAt m 0 ≡ packet.Whole (record { k
 unfolding mapAt answerOf packetAt
 read-accepted m h v = rw (h, whole-part m (length m) refl, v)
 
-pub track-accepted : (m : List ℕ) (k : ℕ) → headerAt m 0 ≡ packet.Whole (record { kind = 0xBC; len = length m }) → mapVerdict m ≡ verdict.Accepted
-    → trackAt m 0 k ≡ onKth (kthOf k (listedIn m))
-unfolding trackAt trackIn packetAt
-track-accepted m k h v = rw (h, whole-part m (length m) refl, v)
-
 -- its header states its length
 pub accepted-header : (m : List ℕ) → Accepted m → headerAt m 0 ≡ packet.Whole (record { kind = 0xBC; len = length m })
 unfolding mapAt
@@ -245,7 +236,7 @@ module _ (m : List ℕ) (h : Accepted m) where
   byte-parts = record { spare = spare-bytes; second = second-byte; material = rw section-material (in-material (layoutOf m)); tracks = rw section-tracks (in-tracks (layoutOf m)) }
 
   -- the section that an item is set in, by its length
-  pub set-fit : (b : Boundary) (i : Item) → There b m → lengthAt b m + 2 + length (i .value) ≤ 65535 → Fit (setInParts b i (partsOf m))
+  pub set-fit : (b : Boundary) (i : Item) → There b m → Room b i m → Fit (setInParts b i (partsOf m))
   unfolding setInParts
   set-fit (inMaterial k) i there room =
       let p = partsOf m in
@@ -257,7 +248,7 @@ module _ (m : List ℕ) (h : Accepted m) where
       fits (setInParts (inTrack j k) i p) (fit-parts .four) (fit-parts .material)
       (omega (arith, split.length-bytes (map described (p .tracks)), set-tracks-size j k i (p .tracks) there, ap length section-tracks))
 
-  pub room-asked : (b : Boundary) (i : Item) → There b m → Fit (setInParts b i (partsOf m)) → lengthAt b m + 2 + length (i .value) ≤ 65535
+  pub room-asked : (b : Boundary) (i : Item) → There b m → Fit (setInParts b i (partsOf m)) → Room b i m
   unfolding setInParts
   room-asked (inMaterial k) i there f =
       let p = partsOf m in

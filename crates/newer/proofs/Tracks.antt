@@ -1,28 +1,25 @@
 -- Tracks struck and set in.
-use Prim.Native.Nat.{ℕ, zero, suc, _+_, _-_, _<_, _≤_}
-use mathlib.Core.Path.{_≡_, refl, sym, _∙_, ap}
+use Prim.Native.Nat.{ℕ, zero, suc, _+_, _<_, _≤_}
+use mathlib.Core.Path.{_≡_, refl, sym, _∙_}
 use mathlib.Core.Bool.{Bool, true, false}
 use mathlib.Core.List.{List, [], _∷_, _++_, map}
 use native.Mathlib.Omega.{arith}
 use lib.ListN.{length}
-use lib.Dec.{eqb}
 use Rattle.plate.specs.Choice.{pick}
 use Rattle.number.specs.Number.{beBytes}
 use Rattle.number.proofs.Bytes.{AllBytes, bytes-join, bytes-left, bytes-right, bytes-number}
 use Rattle.items.specs.Items.{Item, bytesOf}
-use Rattle.items.specs.Items as items
 use Rattle.items.specs.Judge.{formOf, isKnown, has, judgeItems, verdictOf}
-use Rattle.items.specs.Find.{find, partOf}
+use Rattle.items.specs.Find.{find}
 use Rattle.items.specs.declared.Section.the-variants as section
 use Rattle.items.specs.declared.Verdict.the-variants.{Accepted}
 use Rattle.items.proofs.Anywhere.{both-accepted, verdict-bytes, judge-anywhere}
 use Rattle.items.proofs.Split as split
-use Rattle.answer.specs.Answer.{valueOf, isNull}
 use Rattle.track_section.specs.Tracks.{over, trackOver, trackVerdict, judgeTracks, isListed}
 use Rattle.track_section.specs.Tracks as tracks
-use Rattle.track_section.proofs.Anywhere.{Passed, passed, pass, tracks-anywhere, track-anywhere}
+use Rattle.track_section.proofs.Anywhere.{passed, pass, tracks-anywhere}
 use Rattle.map.specs.Encode.{TrackParts, described}
-use Rattle.map.specs.Said.{heldOf, trackSaid, listedOf}
+use Rattle.map.specs.Said.{trackSaid, listedOf}
 use Rattle.map.proofs.Said.{same-value, same-null}
 use Rattle.newer.specs.Strike.{kept, trackStays, struckTrack, setAt, setInTrack}
 use Rattle.newer.proofs.Items.{Fewer, fewer-both, fewer-one, kept-again, kept-set, kept-good, set-good, kept-size, set-size, kept-bytes, set-bytes, kept-held, kept-code}

@@ -43,6 +43,10 @@ abbrev pub There : Boundary → List ℕ → Type 0
 There (inMaterial k) m = Unit {0}
 There (inTrack j k) m = j < length (partsOf m .tracks)
 
+-- the section has room for the item: with it, it has 65,535 bytes at most, as many as a length word can state
+abbrev pub Room : Boundary → Item → List ℕ → Type 0
+Room b i m = lengthAt b m + 2 + length (i .value) ≤ 65535
+
 -- an item whose tag is unknown in the boundary's section; it has a tag byte, a length byte and bytes
 pub record Unknown (b : Boundary) (i : Item) : Type 0 where
   pub unknown : isKnown (formOf (sectionAt b) (i .tag)) ≡ false
@@ -57,11 +61,9 @@ pub record Demand : Type 0 where
   pub one-answer : (m : List ℕ) → Accepted m → Alike m (strike m)
   -- 3. so two accepted maps with the same remainder answer alike
   pub same-remainder : (m n : List ℕ) → Accepted m → Accepted n → strike m ≡ strike n → Alike m n
-  -- 4. an unknown item set in leaves the map accepted and the answer alike, if its section has room for it in 65,535 bytes
-  pub set-in : (m : List ℕ) → Accepted m → (b : Boundary) (i : Item) → There b m → Unknown b i → lengthAt b m + 2 + length (i .value) ≤ 65535
-      → Accepted (setIn b i m) × Alike m (setIn b i m)
-  -- and no accepted map has those items without the room
-  pub no-more : (m : List ℕ) → Accepted m → (b : Boundary) (i : Item) → There b m → (n : List ℕ) → Accepted n → partsOf n ≡ setInParts b i (partsOf m)
-      → lengthAt b m + 2 + length (i .value) ≤ 65535
+  -- 4. an unknown item set in leaves the map accepted and the answer alike, if its section has room for it
+  pub set-in : (m : List ℕ) → Accepted m → (b : Boundary) (i : Item) → There b m → Unknown b i → Room b i m → Accepted (setIn b i m) × Alike m (setIn b i m)
+  -- and if it has no room, no accepted map has those items
+  pub no-more : (m : List ℕ) → Accepted m → (b : Boundary) (i : Item) → There b m → (n : List ℕ) → Accepted n → partsOf n ≡ setInParts b i (partsOf m) → Room b i m
   -- 5. striking twice is striking once
   pub twice : (m : List ℕ) → Accepted m → strike (strike m) ≡ strike m

@@ -1,5 +1,5 @@
 -- Demand 3 through the functions `map::read` and `map::track`, over their contracts as the checker reads them (`Reads.Post`). Proved in proofs/Functions.antt.
-use Prim.Native.Nat.{ℕ, zero, suc, _+_, _≤_}
+use Prim.Native.Nat.{ℕ, zero, suc}
 use mathlib.Core.Path.{_≡_}
 use mathlib.Core.List.{List, [], _∷_, _++_}
 use lib.ListN.{length}
@@ -19,7 +19,7 @@ use Rattle.map.proofs.read.Reads as read-reads
 use Rattle.map.proofs.track.Kinds as track-kinds
 use Rattle.map.proofs.track.Reads as track-reads
 use Rattle.newer.specs.Strike.{strike, Boundary, setIn}
-use Rattle.newer.specs.Demand.{Accepted, There, Unknown, lengthAt}
+use Rattle.newer.specs.Demand.{Accepted, There, Unknown, Room}
 
 -- x is an outcome that the contract of `read` allows where the packet m stands, wherever that is in lent bytes
 pub record ReadGives (m : List ℕ) (x : MapAnswer) : Type 0 where
@@ -76,4 +76,4 @@ pub record Functions : Type 0 where
   -- on an accepted map, and on its remainder
   pub one-answer : (m : List ℕ) → Accepted m → Answers m (shownIn m) × Answers (strike m) (shownIn m)
   -- on the map with an unknown item set in
-  pub set-in : (m : List ℕ) → Accepted m → (b : Boundary) (i : Item) → There b m → Unknown b i → lengthAt b m + 2 + length (i .value) ≤ 65535 → Answers (setIn b i m) (shownIn m)
+  pub set-in : (m : List ℕ) → Accepted m → (b : Boundary) (i : Item) → There b m → Unknown b i → Room b i m → Answers (setIn b i m) (shownIn m)
