@@ -25,14 +25,16 @@ use Rattle.track_section.specs.Tracks as tracks
 use Rattle.map.specs.Map as map
 use Rattle.map.specs.Encode as encode
 use Rattle.map.specs.Shown as shown
-use Rattle.map.specs.Shown.{Shown, TrackShown, shownIn}
+use Rattle.map.specs.Shown.{nothing, bytes, Shown, TrackShown, shownIn}
 use Rattle.map.specs.Said as said
 use Rattle.map.specs.declared.MapSays.{MapSays}
 use Rattle.newer.specs.Strike as strike
 use Rattle.newer.specs.Strike.{inTrack, setIn}
 use Rattle.newer.specs.Demand.{Accepted, Alike, There, Unknown, Room}
 use Rattle.newer.proofs.Items.{never}
+use Rattle.newer.specs.Functions.{Answers}
 use Rattle.newer.proofs.Demand.{demand}
+use Rattle.newer.proofs.Functions.{answers}
 
 -- header, payload's front, first field 0; the track section, track 1 of type 10 with the name A1 and the rate not available; a pad byte
 abbrev pub M : List ℕ
@@ -136,6 +138,39 @@ newer-struck = refl
 pub reserved-struck : strike.strike reserved ≡ unrated
 unfolding strike.strike strike.struck strike.struckTrack strike.kept strike.materialStays strike.trackStays strike.isReserved said.listedOf said.partsOf said.opened encode.encode encode.packetOf encode.front encode.sectionBytes encode.packetLength encode.padding encode.described beBytes be items.split items.sectionOf items.bytesOf judge.formOf judge.isKnown answer.valueOf answer.codeOf answer.allowed judge.has tracks.split tracks.tracksOf tracks.bytesOf tracks.isListed knownType map.layoutOf map.afterMaterial
 reserved-struck = refl
+
+-- what M shows: first field 0, track 1, type 10, name A1, rate not available
+abbrev pub M-shows : Shown
+M-shows =
+    record {
+      count = 1;
+      material =
+          record { name = nothing; first = value.Is 0; last = value.Absent; markIn = value.Absent; markOut = value.Absent; size = value.Absent };
+      tracks =
+          record {
+            id = 1;
+            kind = 10;
+            rate = code.NotAvailable;
+            lines = code.Absent;
+            fields = code.Absent;
+            version = value.Absent;
+            name = bytes 3 (0x41 ∷ 0x31 ∷ 0x00 ∷ []);
+            aux = nothing;
+            mpeg = nothing;
+          }
+          ∷ [];
+    }
+
+pub M-shown : shownIn M ≡ M-shows
+unfolding be knownType items.split items.sectionOf find.find answer.valueOf answer.allowed answer.codeOf answer.isNull answer.materialOf answer.trackOf judge.has tracks.split tracks.tracksOf tracks.isListed tracks.listed tracks.recordOf map.afterMaterial map.layoutOf map.materialSays map.listedIn shown.materialShown shown.trackShown shown.shownIn
+M-shown = refl
+
+-- so the functions give that on M, and on M with `7E 01 55`
+pub M-answers : Answers M M-shows
+M-answers = rw (← M-shown) (answers M M-accepted)
+
+pub newer-answers : Answers newer M-shows
+newer-answers = rw (← M-shown, newer-alike .1) (answers newer newer-accepted)
 
 -- M and M with rate 9 do not answer alike: the rate is not available, or absent
 rateOf : List TrackShown → Code

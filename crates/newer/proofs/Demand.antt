@@ -58,6 +58,10 @@ module _ (m : List ℕ) (h : Accepted m) (b : Boundary) (i : Item) (there : Ther
     pub set-in-alike : Accepted (setIn b i m) × Alike m (setIn b i m)
     set-in-alike = (set-accepted, same-alike m (setIn b i m) h set-accepted (sym set-struck))
 
+  pub set-parts : Room b i m → partsOf (setIn b i m) ≡ setInParts b i (partsOf m)
+  unfolding setIn
+  set-parts room = parts-of-encoded (setInParts b i (partsOf m)) (set-fit m h b i there room)
+
   pub room-needed : (n : List ℕ) → Accepted n → partsOf n ≡ setInParts b i (partsOf m) → Room b i m
   room-needed n k e = room-asked m h b i there (rw e at (fit-parts n k))
 
@@ -65,9 +69,11 @@ pub demand : Demand
 demand =
     record {
       accepted = remainder-accepted;
+      rest = remainder-parts;
       one-answer = remainder-alike;
       same-remainder = same-alike;
       set-in = set-in-alike;
+      set-there = set-parts;
       no-more = room-needed;
       twice = strike-twice;
     }

@@ -14,7 +14,7 @@ use Rattle.map.specs.declared.MapSays.{MapSays}
 use Rattle.map.specs.declared.MapAnswer.the-variants.{Says}
 use Rattle.map.specs.Shown.{shownIn}
 use Rattle.map.specs.Said.{partsOf}
-use Rattle.newer.specs.Strike.{strike, Boundary, inMaterial, inTrack, setIn, setInParts}
+use Rattle.newer.specs.Strike.{struck, strike, Boundary, inMaterial, inTrack, setIn, setInParts}
 
 abbrev pub Bytes : List ℕ → Type 0
 Bytes s = (i : ℕ) → getD s i 0 < 256
@@ -55,15 +55,17 @@ pub record Unknown (b : Boundary) (i : Item) : Type 0 where
   pub bytes : Bytes (i .value)
 
 pub record Demand : Type 0 where
-  -- 1. the remainder is accepted
+  -- 1. the remainder is accepted; its parts are the map's, less what is struck
   pub accepted : (m : List ℕ) → Accepted m → Accepted (strike m)
+  pub rest : (m : List ℕ) → Accepted m → partsOf (strike m) ≡ struck (partsOf m)
   -- 2. map and remainder get the one answer
   pub one-answer : (m : List ℕ) → Accepted m → Alike m (strike m)
   -- 3. so two accepted maps with the same remainder answer alike
   pub same-remainder : (m n : List ℕ) → Accepted m → Accepted n → strike m ≡ strike n → Alike m n
   -- 4. an unknown item set in leaves the map accepted and the answer alike, if its section has room for it
   pub set-in : (m : List ℕ) → Accepted m → (b : Boundary) (i : Item) → There b m → Unknown b i → Room b i m → Accepted (setIn b i m) × Alike m (setIn b i m)
-  -- and if it has no room, no accepted map has those items
+  -- the map has the item there then; and without the room no accepted map has those parts
+  pub set-there : (m : List ℕ) → Accepted m → (b : Boundary) (i : Item) → There b m → Room b i m → partsOf (setIn b i m) ≡ setInParts b i (partsOf m)
   pub no-more : (m : List ℕ) → Accepted m → (b : Boundary) (i : Item) → There b m → (n : List ℕ) → Accepted n → partsOf n ≡ setInParts b i (partsOf m) → Room b i m
   -- 5. striking twice is striking once
   pub twice : (m : List ℕ) → Accepted m → strike (strike m) ≡ strike m
