@@ -16,6 +16,7 @@ use Rattle.map.specs.Shown.{shownIn}
 use Rattle.map.specs.Said.{partsOf}
 use Rattle.newer.specs.Strike.{struck, strike, Boundary, inMaterial, inTrack, setIn, setInParts}
 
+-- each of them is a byte
 abbrev pub Bytes : List ℕ → Type 0
 Bytes s = (i : ℕ) → getD s i 0 < 256
 
@@ -43,7 +44,7 @@ abbrev pub There : Boundary → List ℕ → Type 0
 There (inMaterial k) m = Unit {0}
 There (inTrack j k) m = j < length (partsOf m .tracks)
 
--- the section has room for the item: with it, it has 65,535 bytes at most, as many as a length word can state
+-- the section has room for the item: with it, it has 65,535 bytes at most, as many as a length word can state; a track lies in its section, so it fits then too
 abbrev pub Room : Boundary → Item → List ℕ → Type 0
 Room b i m = lengthAt b m + 2 + length (i .value) ≤ 65535
 
