@@ -2,7 +2,8 @@
 """twins.py: makes the maps that the program `twins` reads, and the lines that it must write.
 Each map has a twin: the same map without what document 01 leaves unknown or reserved. Maps are made from items and tracks; a twin
 is also found a second way, by taking the map's bytes apart, and the two must agree. It is written from document 01 alone.
-Same seed, same files: crates/twins/data/*.gxf and crates/twins/stdout."""
+Same seed, same files: crates/twins/data/*.gxf, crates/twins/stdout, and some of the pairs as a table for the checker, crates/newer/proofs/Outside.antt.
+Run `rt fmt` afterwards."""
 import os, random, struct
 
 HERE = os.path.join(os.path.dirname(os.path.abspath(__file__)), '..', 'crates', 'twins')
@@ -139,15 +140,16 @@ def line(name, p, q, n, alike):
 
 def pairs(count):
     """maps and their twins"""
-    out, said = b'', ''
+    out, said, packets = b'', '', []
     for k in range(count):
         a = a_map()
         p = written(a, R.choice([None, 0, 0, 1, 3]))
         q = written(struck(a))
         assert q == struck_bytes(p) and struck_bytes(q) == q, k
         out += p + q
+        packets.append((p, q))
         said += line('pair %d' % (k + 1), p, q, listed(a), True)
-    return out, said
+    return out, said, packets
 
 def full():
     """a material section of 65,535 bytes, nearly all of it unknown"""
@@ -157,6 +159,47 @@ def full():
     p, q = written(a), written(struck(a))
     assert q == struck_bytes(p)
     return p + q, line('pair 1', p, q, 1, True)
+
+HEAD = """-- Maps and twins that were made outside (tools/twins.py): the twin is what `strike` leaves of the map, to the byte. Computed by the checker.
+use Prim.Native.Nat.{ℕ}
+use mathlib.Core.Path.{_≡_, refl}
+use mathlib.Core.List.{List, [], _∷_}
+use Rattle.number.specs.Number.{be, beBytes}
+use Rattle.media_type.specs.MediaType.{knownType}
+use Rattle.items.specs.Items as items
+use Rattle.items.specs.Judge as judge
+use Rattle.answer.specs.Answer as answer
+use Rattle.track_section.specs.Tracks as tracks
+use Rattle.map.specs.Map as map
+use Rattle.map.specs.Encode as encode
+use Rattle.map.specs.Said as said
+use Rattle.newer.specs.Strike as strike
+
+-- a map and its twin, each as so many bytes and the number that they are
+pub record Twins : Type 0 where
+  pub map : List ℕ
+  pub twin : List ℕ
+
+abbrev pub Struck : List Twins → Type 0
+Struck [] = Unit {0}
+Struck (t ∷ ts) = (strike.strike (t .map) ≡ t .twin) × Struck ts
+
+pub pairs : List Twins
+pairs =
+"""
+
+UNFOLD = ('pairs strike.strike strike.struck strike.struckTrack strike.kept strike.materialStays strike.trackStays strike.isReserved said.listedOf said.partsOf said.opened '
+          'encode.encode encode.packetOf encode.front encode.sectionBytes encode.packetLength encode.padding encode.described beBytes be items.split items.sectionOf items.bytesOf '
+          'judge.formOf judge.isKnown judge.has answer.valueOf answer.codeOf answer.allowed tracks.split tracks.tracksOf tracks.bytesOf tracks.isListed knownType map.layoutOf map.afterMaterial')
+
+def table(packets, count):
+    """some pairs of short maps, for the checker"""
+    some = [(p, q) for p, q in packets if len(p) <= 240 and len(p) > len(q) + 8][:count]
+    rows = ['    record { map = beBytes %d 0x%s; twin = beBytes %d 0x%s }\n' % (len(p), p.hex().upper(), len(q), q.hex().upper()) for p, q in some]
+    proof = 'tt'
+    for _ in some:
+        proof = '(refl, %s)' % proof
+    return HEAD + '    \u2237'.join(rows).replace('\u2237    record', '\u2237 record') + '    \u2237 []\n\npub pairs-struck : Struck pairs\nunfolding ' + UNFOLD + '\npairs-struck = ' + proof + '\n'
 
 def swap(items, tag, value):
     return [(t, value if t == tag else v, s) for t, v, s in items]
@@ -198,13 +241,16 @@ def controls():
 def main():
     os.makedirs(os.path.join(HERE, 'data'), exist_ok=True)
     said = ''
-    for name, (out, lines) in (('pairs', pairs(240)), ('full', full()), ('controls', controls())):
+    out, lines, packets = pairs(240)
+    for name, (out, lines) in (('pairs', (out, lines)), ('full', full()), ('controls', controls())):
         with open(os.path.join(HERE, 'data', name + '.gxf'), 'wb') as f:
             f.write(out)
         said += '%s.gxf\n%s' % (name, lines)
         print(name, len(out))
     with open(os.path.join(HERE, 'stdout'), 'w') as f:
         f.write(said)
+    with open(os.path.join(HERE, '..', 'newer', 'proofs', 'Outside.antt'), 'w') as f:
+        f.write(table(packets, 16))
 
 if __name__ == '__main__':
     main()
