@@ -25,14 +25,19 @@ use Rattle.track_section.specs.Tracks as tracks
 use Rattle.map.specs.Map as map
 use Rattle.map.specs.Encode as encode
 use Rattle.map.specs.Shown as shown
-use Rattle.map.specs.Shown.{nothing, bytes, Shown, TrackShown, shownIn}
+use Rattle.map.specs.Shown.{nothing, bytes, Shown, shownIn}
 use Rattle.map.specs.Said as said
 use Rattle.map.specs.declared.MapSays.{MapSays}
 use Rattle.newer.specs.Strike as strike
 use Rattle.newer.specs.Strike.{inTrack, setIn}
 use Rattle.newer.specs.Demand.{Accepted, Alike, There, Unknown, Room}
 use Rattle.newer.proofs.Items.{never}
-use Rattle.newer.specs.Functions.{Answers}
+use Rattle.map.specs.declared.MapAnswer.{MapAnswer}
+use Rattle.map.specs.declared.MapAnswer.the-variants as map-answer
+use Rattle.map.specs.declared.TrackAnswer.{TrackAnswer}
+use Rattle.map.specs.declared.TrackAnswer.the-variants as track-answer
+use Rattle.plate.specs.declared.Refusal.{Refusal}
+use Rattle.newer.specs.Functions.{ReadGives, TrackGives, MapSeen, says, refused, mapSeen, TrackSeen, holds, trackSeen, kthSeen, Answers}
 use Rattle.newer.proofs.Demand.{demand}
 use Rattle.newer.proofs.Functions.{answers}
 
@@ -172,21 +177,81 @@ M-answers = rw (← M-shown) (answers M M-accepted)
 pub newer-answers : Answers newer M-shows
 newer-answers = rw (← M-shown, newer-alike .1) (answers newer newer-accepted)
 
--- M and M with rate 9 do not answer alike: the rate is not available, or absent
-rateOf : List TrackShown → Code
-rateOf [] = code.Absent
-rateOf (t ∷ ts) = t .rate
+-- the shortest map says less: no track, and no first field
+abbrev pub shortest : List ℕ
+shortest =
+    0x00 ∷ 0x00 ∷ 0x00 ∷ 0x00 ∷ 0x01 ∷ 0xBC ∷ 0x00 ∷ 0x00 ∷ 0x00 ∷ 0x18 ∷ 0x00 ∷ 0x00 ∷ 0x00 ∷ 0x00 ∷ 0xE1 ∷ 0xE2
+    ∷ 0xE0 ∷ 0xFF ∷ 0x00 ∷ 0x00 ∷ 0x00 ∷ 0x00 ∷ 0x00 ∷ 0x00 ∷ []
 
-M-rate : rateOf (shownIn M .tracks) ≡ code.NotAvailable
-unfolding rateOf be knownType items.split items.sectionOf find.find answer.valueOf answer.allowed answer.codeOf answer.isNull answer.materialOf answer.trackOf judge.has tracks.split tracks.tracksOf tracks.isListed tracks.listed tracks.recordOf map.afterMaterial map.layoutOf map.materialSays map.listedIn shown.materialShown shown.trackShown shown.shownIn
+abbrev answer-0 : MapSays
+answer-0 =
+    record {
+      count = 0;
+      material =
+          record {
+            name = part.Absent;
+            first = value.Absent;
+            last = value.Absent;
+            «mark_in» = value.Absent;
+            «mark_out» = value.Absent;
+            size = value.Absent;
+          };
+    }
+
+pub shortest-accepted : Accepted shortest
+unfolding bytesAre be headerAt sizedAt packetAt knownType textOk items.split items.sectionOf items.sizeOf judge.formOf judge.isKnown judge.faultOf judge.countsAs judge.has judge.judgeItems judge.verdictOf find.find answer.valueOf answer.materialOf tracks.split tracks.tracksOf tracks.trackVerdict tracks.endVerdict tracks.judgeTracks tracks.tracksVerdict tracks.isListed tracks.listed map.afterMaterial map.layoutOf map.bothVerdict map.sectionsVerdict map.mapVerdict map.materialSays map.listedIn map.answerOf map.mapAt
+shortest-accepted = record { bytes = λ i. by-number shortest (bytes-are shortest refl) i .fits; alone = refl; says = answer-0; read = refl }
+
+shortest-count : shownIn shortest .count ≡ 0
+unfolding be knownType items.split items.sectionOf find.find answer.valueOf answer.allowed answer.codeOf answer.isNull answer.materialOf answer.trackOf judge.has tracks.split tracks.tracksOf tracks.isListed tracks.listed tracks.recordOf map.afterMaterial map.layoutOf map.materialSays map.listedIn shown.materialShown shown.trackShown shown.shownIn
+shortest-count = refl
+
+-- so no reader that refuses M, and none that gives one outcome on all maps, has the contract of `read`
+seen-count : MapSeen → ℕ
+seen-count (says n m) = n
+seen-count (refused r) = 2
+
+one-count : (m : List ℕ) (x : MapAnswer) → Accepted m → ReadGives m x → seen-count (mapSeen m x) ≡ shownIn m .count
+unfolding seen-count
+one-count m x h g = ap seen-count (answers m h .read x g)
+
+pub no-refusal : (r : Refusal) → ReadGives M (map-answer.Refused r) → ⊥
+unfolding seen-count
+no-refusal r g = let e = one-count M (map-answer.Refused r) M-accepted g ∙ ap (λ (s : Shown). s .count) M-shown in omega arith
+
+pub no-constant : (x : MapAnswer) → ReadGives M x → ReadGives shortest x → ⊥
+unfolding seen-count
+no-constant (map-answer.Says a) g k =
+    let e = one-count M (map-answer.Says a) M-accepted g ∙ ap (λ (s : Shown). s .count) M-shown in
+    let f = one-count shortest (map-answer.Says a) shortest-accepted k ∙ shortest-count in
+    omega arith
+no-constant (map-answer.Refused r) g k = no-refusal r g
+
+-- M and M with rate 9 do not answer alike: the rate is not available, or absent
+rateOf : TrackSeen → Code
+rateOf (holds t) = t .rate
+rateOf (TrackSeen.refused r) = code.Is 0
+
+M-rate : rateOf (kthSeen 0 (shownIn M .tracks)) ≡ code.NotAvailable
+unfolding rateOf kthSeen be knownType items.split items.sectionOf find.find answer.valueOf answer.allowed answer.codeOf answer.isNull answer.materialOf answer.trackOf judge.has tracks.split tracks.tracksOf tracks.isListed tracks.listed tracks.recordOf map.afterMaterial map.layoutOf map.materialSays map.listedIn shown.materialShown shown.trackShown shown.shownIn
 M-rate = refl
 
-reserved-rate : rateOf (shownIn reserved .tracks) ≡ code.Absent
-unfolding rateOf be knownType items.split items.sectionOf find.find answer.valueOf answer.allowed answer.codeOf answer.isNull answer.materialOf answer.trackOf judge.has tracks.split tracks.tracksOf tracks.isListed tracks.listed tracks.recordOf map.afterMaterial map.layoutOf map.materialSays map.listedIn shown.materialShown shown.trackShown shown.shownIn
+reserved-rate : rateOf (kthSeen 0 (shownIn reserved .tracks)) ≡ code.Absent
+unfolding rateOf kthSeen be knownType items.split items.sectionOf find.find answer.valueOf answer.allowed answer.codeOf answer.isNull answer.materialOf answer.trackOf judge.has tracks.split tracks.tracksOf tracks.isListed tracks.listed tracks.recordOf map.afterMaterial map.layoutOf map.materialSays map.listedIn shown.materialShown shown.trackShown shown.shownIn
 reserved-rate = refl
 
+other-rate : code.NotAvailable ≡ code.Absent → ⊥
+other-rate e = let z : _≡_ {A = ℕ} 0 1 = cc in omega arith
+
 pub unlike : Alike M reserved → ⊥
-unlike e =
-    let c : code.NotAvailable ≡ code.Absent = sym M-rate ∙ ap (λ (s : Shown). rateOf (s .tracks)) e ∙ reserved-rate in
-    let z : _≡_ {A = ℕ} 0 1 = cc in
-    omega arith
+unlike e = other-rate (sym M-rate ∙ ap (λ (s : Shown). rateOf (kthSeen 0 (s .tracks))) e ∙ reserved-rate)
+
+-- so no reader that gives one record on all maps has the contract of `track`
+pub no-constant-track : (y : TrackAnswer) → TrackGives M 0 y → TrackGives reserved 0 y → ⊥
+unfolding rateOf shown.trackShown
+no-constant-track y g k =
+    other-rate (sym M-rate ∙ sym (ap rateOf (answers M M-accepted .track 0 y g)) ∙ same y ∙ ap rateOf (answers reserved reserved-accepted .track 0 y k) ∙ reserved-rate)
+  where
+    same : (y : TrackAnswer) → rateOf (trackSeen M y) ≡ rateOf (trackSeen reserved y)
+    same (track-answer.Record t) = refl
+    same (track-answer.Refused r) = refl
