@@ -1,3 +1,4 @@
+pub mod Anywhere
 pub mod Judged
 pub mod Lookup
 pub mod Once

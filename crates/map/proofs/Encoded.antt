@@ -4,8 +4,8 @@ use mathlib.Core.Path.{_≡_, refl, sym, _∙_, ap}
 use mathlib.Core.List.{List, [], _∷_, _++_, map, append-assoc}
 use native.Mathlib.Omega.{arith}
 use native.Mathlib.Nat.{add-zero, add-sub-cancel-left}
-use lib.ListN.{length, getD, replicate, length-append, length-replicate}
-use lib.Seq.{take-append-seam, drop-at}
+use lib.ListN.{length, getD, take, drop, replicate, length-append, length-replicate}
+use lib.Seq.{take-append-seam, drop-at, take-at, getD-at}
 use borrow.Author.Tests.{le-ltb}
 use Rattle.number.specs.Number.{be, beBytes}
 use Rattle.number.proofs.Laws.{be-back, be-after, length-beBytes}
@@ -15,10 +15,15 @@ use Rattle.packet.proofs.Laws.{accepts}
 use Rattle.items.specs.Items.{sectionOf, bytesOf}
 use Rattle.items.proofs.Split as items
 use Rattle.track_section.specs.Tracks as tracks
-use Rattle.track_section.specs.Tracks.{tracksOf, over}
+use Rattle.track_section.specs.Tracks.{tracksOf, judgeTracks, tracksVerdict, over}
 use Rattle.track_section.proofs.Split.{Sized}
 use Rattle.track_section.proofs.Split as split
-use Rattle.map.specs.Map.{afterMaterial, layoutOf, materialIn, tracksIn}
+use Rattle.items.specs.Judge.{andThen, judgeItems, verdictOf}
+use Rattle.items.specs.declared.Verdict.the-variants.{Accepted}
+use Rattle.items.proofs.Anywhere.{verdict-bytes}
+use Rattle.items.specs.declared.Section.the-variants as section
+use Rattle.map.specs.Map.{part, afterMaterial, layoutOf, materialIn, tracksIn, bothVerdict, sectionsVerdict, mapVerdict}
+use Rattle.map.specs.Said.{opened, partsOf}
 use Rattle.map.specs.Encode.{TrackParts, MapParts, described, padding, sectionBytes, packetLength, front, packetOf, encode}
 use Rattle.map.specs.declared.Layout.the-variants.{Both}
 use mathlib.Core.Bool.{true}
@@ -146,9 +151,9 @@ module _ (spare : List ℕ) (second : ℕ) (m t : List ℕ) (four : length spare
     size-6 : length (six ++ beBytes 4 (packetLength m t) ++ spare) ≡ 14
     size-6 = omega (arith, length-append (six ++ beBytes 4 (packetLength m t)) spare, length-append six (beBytes 4 (packetLength m t)), length-beBytes 4 (packetLength m t), four)
 
-    long : (packetLength m t < 256 ^ 4) × (16 ≤ packetLength m t) × (packetLength m t % 4 ≡ 0)
+    long : (packetLength m t < 256 ^ 4) × (16 ≤ packetLength m t) × (packetLength m t % 4 ≡ 0) × (18 ≤ packetLength m t)
     unfolding packetLength
-    long = (omega (arith, padding-under (22 + length m + length t)), omega arith, padded (22 + length m + length t))
+    long = (omega (arith, padding-under (22 + length m + length t)), omega arith, padded (22 + length m + length t), omega arith)
 
     length-word : be p 6 4 ≡ packetLength m t
     length-word = rw cut-5 (be-back six 4 (packetLength m t) (spare ++ (0xE1 ∷ 0xE2 ∷ behind)) (long .0))
@@ -174,6 +179,46 @@ module _ (spare : List ℕ) (second : ℕ) (m t : List ℕ) (four : length spare
     header-encoded =
         accepts p 0 (packetLength m t) leader trailer length-word (long .1) (long .2) (omega (arith, packet-length))
         ∙ ap (λ (k : ℕ). Whole (record { kind = k; len = packetLength m t })) kinds
+
+    -- the reserved bytes and the version byte
+    cut-7 : p ≡ six ++ beBytes 4 (packetLength m t) ++ (spare ++ (0xE1 ∷ 0xE2 ∷ behind))
+    cut-7 = cut-5 ∙ simp append-assoc
+
+    size-7 : length (six ++ beBytes 4 (packetLength m t)) ≡ 10
+    size-7 = omega (arith, length-append six (beBytes 4 (packetLength m t)), length-beBytes 4 (packetLength m t))
+
+    pub spare-encoded : take 4 (drop 10 p) ≡ spare
+    spare-encoded =
+        rw (cut-7, drop-at (six ++ beBytes 4 (packetLength m t)) (spare ++ (0xE1 ∷ 0xE2 ∷ behind)) 10 size-7) (take-at spare (0xE1 ∷ 0xE2 ∷ behind) 4 four)
+
+    cut-8 : p ≡ six ++ beBytes 4 (packetLength m t) ++ spare ++ (0xE1 ∷ 0xE2 ∷ []) ++ behind
+    cut-8 = cut-5 ∙ simp append-assoc
+
+    size-8 : length (six ++ beBytes 4 (packetLength m t) ++ spare ++ (0xE1 ∷ 0xE2 ∷ [])) ≡ 16
+    size-8 = omega (arith, length-append (six ++ beBytes 4 (packetLength m t) ++ spare) (0xE1 ∷ 0xE2 ∷ []), size-6)
+
+    pub version-encoded : getD p 16 0 ≡ 0xE0
+    version-encoded = rw cut-8 (getD-at (six ++ beBytes 4 (packetLength m t) ++ spare ++ (0xE1 ∷ 0xE2 ∷ [])) 0xE0 (second ∷ (sectionBytes m t ++ z)) 0 16 size-8)
+
+    cut-9 : p ≡ six ++ beBytes 4 (packetLength m t) ++ spare ++ (0xE1 ∷ 0xE2 ∷ 0xE0 ∷ []) ++ (second ∷ (sectionBytes m t ++ z))
+    cut-9 = cut-5 ∙ simp append-assoc
+
+    size-9 : length (six ++ beBytes 4 (packetLength m t) ++ spare ++ (0xE1 ∷ 0xE2 ∷ 0xE0 ∷ [])) ≡ 17
+    size-9 = omega (arith, length-append (six ++ beBytes 4 (packetLength m t) ++ spare) (0xE1 ∷ 0xE2 ∷ 0xE0 ∷ []), size-6)
+
+    pub second-encoded : getD p 17 0 ≡ second
+    second-encoded = rw cut-9 (getD-at (six ++ beBytes 4 (packetLength m t) ++ spare ++ (0xE1 ∷ 0xE2 ∷ 0xE0 ∷ [])) second (sectionBytes m t ++ z) 0 17 size-9)
+
+    -- the walk over it is the walk over its two sections
+    pub verdict-encoded : mapVerdict p ≡ andThen (verdictOf section.Material m 20) (tracksVerdict t (22 + length m))
+    unfolding mapVerdict sectionsVerdict bothVerdict
+    verdict-encoded =
+        let a : part 20 (20 + length m) p ≡ m = rw layout-encoded at material-encoded in
+        let b : part (20 + length m + 2) (22 + length m + length t) p ≡ t = rw layout-encoded at tracks-encoded in
+        let e : 20 + length m + 2 ≡ 22 + length m = omega arith in
+        let l = packet-length in
+        let k : 18 ≤ length p = rw l (long .3) in
+        rw (le-ltb (length p) 18 k, version-encoded, layout-encoded, a, b, e)
 
 -- a map of items and tracks, each of whose parts fits its length word, comes apart into them
 pub record Fit (p : MapParts) : Type 0 where
@@ -204,3 +249,30 @@ module _ (p : MapParts) (f : Fit p) where
 pub items-of-described : (t : TrackParts) → sectionOf (described t .items) ≡ record { items = t .items; whole = true }
 unfolding described
 items-of-described t = items.section-bytes (t .items)
+
+-- a map that was put together has the parts that it was put together from
+pub opened-described : (ts : List TrackParts) → map opened (map described ts) ≡ ts
+unfolding opened described
+opened-described [] = refl
+opened-described (t ∷ ts) = rw (items.section-bytes (t .items), opened-described ts)
+
+module _ (p : MapParts) (f : Fit p) where
+  spare-of-encoded : take 4 (drop 10 (encode p)) ≡ p .spare
+  unfolding encode
+  spare-of-encoded = spare-encoded (p .spare) (p .second) (bytesOf (p .material)) (tracks.bytesOf (map described (p .tracks))) (f .four) (f .material) (f .tracks)
+
+  second-of-encoded : getD (encode p) 17 0 ≡ p .second
+  unfolding encode
+  second-of-encoded = second-encoded (p .spare) (p .second) (bytesOf (p .material)) (tracks.bytesOf (map described (p .tracks))) (f .four) (f .material) (f .tracks)
+
+  pub parts-of-encoded : partsOf (encode p) ≡ p
+  unfolding partsOf
+  parts-of-encoded = rw (material-of-encoded p f, tracks-of-encoded p f, opened-described (p .tracks), spare-of-encoded, second-of-encoded)
+
+  -- and it is judged as they are
+  pub verdict-of-encoded : mapVerdict (encode p)
+      ≡ andThen (andThen (judgeItems section.Material [] 20 (p .material)) Accepted) (judgeTracks [] (22 + length (bytesOf (p .material))) (map described (p .tracks)) over)
+  unfolding encode tracksVerdict
+  verdict-of-encoded =
+      verdict-encoded (p .spare) (p .second) (bytesOf (p .material)) (tracks.bytesOf (map described (p .tracks))) (f .four) (f .material) (f .tracks)
+      ∙ rw (verdict-bytes section.Material (p .material) 20, split.section-bytes (map described (p .tracks)) (f .each))

@@ -2,3 +2,5 @@ pub mod Encoded
 pub mod Faults
 pub mod Laws
 pub mod Once
+pub mod Parts
+pub mod Said

@@ -1,3 +1,4 @@
+pub mod Anywhere
 pub mod Faults
 pub mod Judged
 pub mod Listed

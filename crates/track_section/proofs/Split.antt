@@ -1,15 +1,17 @@
--- A track section's split at a place.
+-- A track section's split at a place, and the split of what was put together.
 use Prim.Native.Nat.{ℕ, zero, suc, _+_, _-_, _*_, _/_, _%_, _<_, _≤_}
 use mathlib.Core.Path.{_≡_, refl, sym, _∙_}
 use mathlib.Core.List.{List, [], _∷_, _++_}
 use native.Mathlib.Omega.{arith}
 use native.Mathlib.Nat.{add-zero}
-use lib.ListN.{length, getD, take, drop, drop-of-length-le, length-drop, length-append}
+use lib.ListN.{length, getD, take, drop, drop-of-length-le, length-drop, length-append, take-append-drop}
 use lib.Seq.{drop-cons, drop-drop, length-take-le, take-append-seam, drop-append-seam}
 use lib.Dec.{leb}
 use borrow.Author.Tests.{le-leb, lt-leb, leb-true}
 use Rattle.plate.specs.Choice.{pick}
 use Rattle.number.specs.Number.{be, beBytes}
+use Rattle.number.proofs.Laws.{length-beBytes}
+use Rattle.number.proofs.Bytes.{AllBytes, bytes-drop}
 use Rattle.track_section.specs.Tracks.{Description, over, short, hangs, none, after, split, sizeOf, bytesOf, tracksOf}
 use mathlib.Core.Bool.{Bool, true, false}
 
@@ -116,3 +118,49 @@ split-bytes (d ∷ ds) z (suc f) h =
 pub section-bytes : (ds : List Description) → Sized ds → tracksOf (bytesOf ds) ≡ record { list = ds; end = over }
 unfolding tracksOf
 section-bytes ds z = split-bytes ds z (suc (length (bytesOf ds))) (omega arith)
+
+-- a section that ends where a track ends is the bytes of its tracks
+bytes-split : (f : ℕ) (s : List ℕ) → AllBytes s → length s < f → split f s .end ≡ over → bytesOf (split f s .list) ≡ s
+unfolding split bytesOf
+bytes-split zero s b h e = absurd (omega arith)
+bytes-split (suc f) [] b h e = refl
+bytes-split (suc f) (k ∷ []) b h e = absurd (let z : _≡_ {A = ℕ} 0 1 = cc in omega arith)
+bytes-split (suc f) (k ∷ i ∷ []) b h e = absurd (let z : _≡_ {A = ℕ} 0 1 = cc in omega arith)
+bytes-split (suc f) (k ∷ i ∷ m ∷ []) b h e = absurd (let z : _≡_ {A = ℕ} 0 1 = cc in omega arith)
+bytes-split (suc f) (k ∷ i ∷ m ∷ l ∷ s) b h e =
+    go (leb (m * 256 + l) (length s)) refl
+    (λ v. bytes-split f (drop (m * 256 + l) s) (bytes-drop (m * 256 + l) s (b .1 .1 .1 .1)) (simp length-drop (omega arith)) v) e
+  where
+    n : ℕ
+    n = m * 256 + l
+
+    d : Description
+    d = record { kind = k; id = i; items = take n s }
+
+    go : (t : Bool) → leb n (length s) ≡ t → (split f (drop n s) .end ≡ over → bytesOf (split f (drop n s) .list) ≡ drop n s)
+        → pick t (after d (split f (drop n s))) (none (hangs k i)) .end ≡ over
+        → bytesOf (pick t (after d (split f (drop n s))) (none (hangs k i)) .list) ≡ k ∷ i ∷ m ∷ l ∷ s
+    go true q rest w =
+        let r = bytesOf (split f (drop n s) .list) in
+        let x : n / 256 % 256 ≡ m = omega (arith, b .1 .1 .0, b .1 .1 .1 .0) in
+        let y : n % 256 ≡ l = omega (arith, b .1 .1 .1 .0) in
+        rw (length-take-le n s (leb-true _ _ q), two-bytes n (take n s ++ r), x, y, rest w, take-append-drop)
+    go false q rest w = absurd (let z : _≡_ {A = ℕ} 0 1 = cc in omega arith)
+
+pub section-whole : (s : List ℕ) → AllBytes s → tracksOf s .end ≡ over → bytesOf (tracksOf s .list) ≡ s
+unfolding tracksOf
+section-whole s b e = bytes-split (suc (length s)) s b (omega arith) e
+
+-- the bytes that some tracks are take what they take
+pub length-bytes : (ds : List Description) → length (bytesOf ds) ≡ sizeOf ds
+unfolding bytesOf sizeOf
+length-bytes [] = refl
+length-bytes (d ∷ ds) =
+    let v = d .items in
+    omega (arith, length-append (beBytes 2 (length v)) (v ++ bytesOf ds), length-append v (bytesOf ds), length-beBytes 2 (length v), length-bytes ds)
+
+-- the items of a track are no longer than its section
+pub sized : (ds : List Description) → sizeOf ds < 65536 → Sized ds
+unfolding sizeOf
+sized [] h = tt
+sized (d ∷ ds) h = (omega arith, sized ds (omega arith))

@@ -1,0 +1,257 @@
+-- The bench map M of 01 under demand 3: it is accepted, with `7E 01 55` set in it is 01's other map, whose remainder it is, and another map answers otherwise.
+use Prim.Native.Nat.{ℕ, _<_}
+use mathlib.Core.Path.{_≡_, refl, sym, _∙_, ap}
+use mathlib.Core.Bool.{Bool, true, false}
+use mathlib.Core.List.{List, [], _∷_}
+use native.Mathlib.Omega.{arith}
+use lib.Dec.{ltb}
+use borrow.Author.Tests.{ltb-true}
+use Rattle.plate.specs.Choice.{pick}
+use Rattle.number.specs.Number.{be, beBytes}
+use Rattle.number.proofs.Bytes.{AllBytes, by-number}
+use Rattle.media_type.specs.MediaType.{knownType}
+use Rattle.text.specs.Text.{textOk}
+use Rattle.packet.specs.Packet.{headerAt, sizedAt, packetAt}
+use Rattle.items.specs.Items as items
+use Rattle.items.specs.Items.{Item}
+use Rattle.items.specs.Judge as judge
+use Rattle.items.specs.Find as find
+use Rattle.items.specs.declared.Part.the-variants as part
+use Rattle.answer.specs.Answer as answer
+use Rattle.answer.specs.declared.Value.the-variants as value
+use Rattle.answer.specs.declared.Code.{Code}
+use Rattle.answer.specs.declared.Code.the-variants as code
+use Rattle.track_section.specs.Tracks as tracks
+use Rattle.map.specs.Map as map
+use Rattle.map.specs.Encode as encode
+use Rattle.map.specs.Shown as shown
+use Rattle.map.specs.Shown.{nothing, bytes, Shown, shownIn}
+use Rattle.map.specs.Said as said
+use Rattle.map.specs.declared.MapSays.{MapSays}
+use Rattle.newer.specs.Strike as strike
+use Rattle.newer.specs.Strike.{inTrack, setIn}
+use Rattle.newer.specs.Demand.{Accepted, Alike, There, Unknown, Room}
+use Rattle.newer.proofs.Items.{never}
+use Rattle.map.specs.declared.MapAnswer.{MapAnswer}
+use Rattle.map.specs.declared.MapAnswer.the-variants as map-answer
+use Rattle.map.specs.declared.TrackAnswer.{TrackAnswer}
+use Rattle.map.specs.declared.TrackAnswer.the-variants as track-answer
+use Rattle.plate.specs.declared.Refusal.{Refusal}
+use Rattle.newer.specs.Functions.{ReadGives, TrackGives, MapSeen, says, refused, mapSeen, TrackSeen, holds, trackSeen, kthSeen, Answers}
+use Rattle.newer.proofs.Demand.{demand}
+use Rattle.newer.proofs.Functions.{answers}
+
+-- header, payload's front, first field 0; the track section, track 1 of type 10 with the name A1 and the rate not available; a pad byte
+abbrev pub M : List ℕ
+M =
+    0x00 ∷ 0x00 ∷ 0x00 ∷ 0x00 ∷ 0x01 ∷ 0xBC ∷ 0x00 ∷ 0x00 ∷ 0x00 ∷ 0x2C ∷ 0x00 ∷ 0x00 ∷ 0x00 ∷ 0x00 ∷ 0xE1 ∷ 0xE2
+    ∷ 0xE0 ∷ 0xFF ∷ 0x00 ∷ 0x06 ∷ 0x41 ∷ 0x04 ∷ 0x00 ∷ 0x00 ∷ 0x00 ∷ 0x00
+    ∷ 0x00 ∷ 0x0F ∷ 0x8A ∷ 0xC1 ∷ 0x00 ∷ 0x0B ∷ 0x4C ∷ 0x03 ∷ 0x41 ∷ 0x31 ∷ 0x00 ∷ 0x50 ∷ 0x04 ∷ 0xFF ∷ 0xFF ∷ 0xFF ∷ 0xFE ∷ 0x00 ∷ []
+
+-- M with `7E 01 55` after the rate: length 30, section 12, track 0E, two pad bytes
+abbrev pub newer : List ℕ
+newer =
+    0x00 ∷ 0x00 ∷ 0x00 ∷ 0x00 ∷ 0x01 ∷ 0xBC ∷ 0x00 ∷ 0x00 ∷ 0x00 ∷ 0x30 ∷ 0x00 ∷ 0x00 ∷ 0x00 ∷ 0x00 ∷ 0xE1 ∷ 0xE2
+    ∷ 0xE0 ∷ 0xFF ∷ 0x00 ∷ 0x06 ∷ 0x41 ∷ 0x04 ∷ 0x00 ∷ 0x00 ∷ 0x00 ∷ 0x00
+    ∷ 0x00 ∷ 0x12 ∷ 0x8A ∷ 0xC1 ∷ 0x00 ∷ 0x0E ∷ 0x4C ∷ 0x03 ∷ 0x41 ∷ 0x31 ∷ 0x00 ∷ 0x50 ∷ 0x04 ∷ 0xFF ∷ 0xFF ∷ 0xFF ∷ 0xFE ∷ 0x7E ∷ 0x01 ∷ 0x55 ∷ 0x00 ∷ 0x00 ∷ []
+
+-- M with rate 9
+abbrev pub reserved : List ℕ
+reserved =
+    0x00 ∷ 0x00 ∷ 0x00 ∷ 0x00 ∷ 0x01 ∷ 0xBC ∷ 0x00 ∷ 0x00 ∷ 0x00 ∷ 0x2C ∷ 0x00 ∷ 0x00 ∷ 0x00 ∷ 0x00 ∷ 0xE1 ∷ 0xE2
+    ∷ 0xE0 ∷ 0xFF ∷ 0x00 ∷ 0x06 ∷ 0x41 ∷ 0x04 ∷ 0x00 ∷ 0x00 ∷ 0x00 ∷ 0x00
+    ∷ 0x00 ∷ 0x0F ∷ 0x8A ∷ 0xC1 ∷ 0x00 ∷ 0x0B ∷ 0x4C ∷ 0x03 ∷ 0x41 ∷ 0x31 ∷ 0x00 ∷ 0x50 ∷ 0x04 ∷ 0x00 ∷ 0x00 ∷ 0x00 ∷ 0x09 ∷ 0x00 ∷ []
+
+-- and its remainder: M without a rate, and three pad bytes
+abbrev pub unrated : List ℕ
+unrated =
+    0x00 ∷ 0x00 ∷ 0x00 ∷ 0x00 ∷ 0x01 ∷ 0xBC ∷ 0x00 ∷ 0x00 ∷ 0x00 ∷ 0x28 ∷ 0x00 ∷ 0x00 ∷ 0x00 ∷ 0x00 ∷ 0xE1 ∷ 0xE2
+    ∷ 0xE0 ∷ 0xFF ∷ 0x00 ∷ 0x06 ∷ 0x41 ∷ 0x04 ∷ 0x00 ∷ 0x00 ∷ 0x00 ∷ 0x00
+    ∷ 0x00 ∷ 0x09 ∷ 0x8A ∷ 0xC1 ∷ 0x00 ∷ 0x05 ∷ 0x4C ∷ 0x03 ∷ 0x41 ∷ 0x31 ∷ 0x00 ∷ 0x00 ∷ 0x00 ∷ 0x00 ∷ []
+
+-- numbers that are bytes, by a computed test
+bytesAre : List ℕ → Bool
+bytesAre [] = true
+bytesAre (b ∷ s) = pick (ltb b 256) (bytesAre s) false
+
+bytes-are : (s : List ℕ) → bytesAre s ≡ true → AllBytes s
+unfolding bytesAre
+bytes-are [] e = tt
+bytes-are (b ∷ s) e = go (ltb b 256) refl e (bytes-are s)
+  where
+    go : (t : Bool) → ltb b 256 ≡ t → pick t (bytesAre s) false ≡ true → (bytesAre s ≡ true → AllBytes s) → (b < 256) × AllBytes s
+    go true q e rest = (ltb-true _ _ q, rest e)
+    go false q e rest = never (sym e)
+
+-- first field 0 and one listed track, in all of them
+abbrev answer-1 : MapSays
+answer-1 =
+    record {
+      count = 1;
+      material =
+          record {
+            name = part.Absent;
+            first = value.Is 0;
+            last = value.Absent;
+            «mark_in» = value.Absent;
+            «mark_out» = value.Absent;
+            size = value.Absent;
+          };
+    }
+
+pub M-accepted : Accepted M
+unfolding bytesAre be headerAt sizedAt packetAt knownType textOk items.split items.sectionOf items.sizeOf judge.formOf judge.isKnown judge.faultOf judge.countsAs judge.has judge.judgeItems judge.verdictOf find.find answer.valueOf answer.materialOf tracks.split tracks.tracksOf tracks.trackVerdict tracks.endVerdict tracks.judgeTracks tracks.tracksVerdict tracks.isListed tracks.listed map.afterMaterial map.layoutOf map.bothVerdict map.sectionsVerdict map.mapVerdict map.materialSays map.listedIn map.answerOf map.mapAt
+M-accepted = record { bytes = λ i. by-number M (bytes-are M refl) i .fits; alone = refl; says = answer-1; read = refl }
+
+pub newer-accepted : Accepted newer
+unfolding bytesAre be headerAt sizedAt packetAt knownType textOk items.split items.sectionOf items.sizeOf judge.formOf judge.isKnown judge.faultOf judge.countsAs judge.has judge.judgeItems judge.verdictOf find.find answer.valueOf answer.materialOf tracks.split tracks.tracksOf tracks.trackVerdict tracks.endVerdict tracks.judgeTracks tracks.tracksVerdict tracks.isListed tracks.listed map.afterMaterial map.layoutOf map.bothVerdict map.sectionsVerdict map.mapVerdict map.materialSays map.listedIn map.answerOf map.mapAt
+newer-accepted = record { bytes = λ i. by-number newer (bytes-are newer refl) i .fits; alone = refl; says = answer-1; read = refl }
+
+pub reserved-accepted : Accepted reserved
+unfolding bytesAre be headerAt sizedAt packetAt knownType textOk items.split items.sectionOf items.sizeOf judge.formOf judge.isKnown judge.faultOf judge.countsAs judge.has judge.judgeItems judge.verdictOf find.find answer.valueOf answer.materialOf tracks.split tracks.tracksOf tracks.trackVerdict tracks.endVerdict tracks.judgeTracks tracks.tracksVerdict tracks.isListed tracks.listed map.afterMaterial map.layoutOf map.bothVerdict map.sectionsVerdict map.mapVerdict map.materialSays map.listedIn map.answerOf map.mapAt
+reserved-accepted = record { bytes = λ i. by-number reserved (bytes-are reserved refl) i .fits; alone = refl; says = answer-1; read = refl }
+
+-- `7E 01 55` set in after the two items of the first track gives 01's map
+abbrev pub item : Item
+item = record { tag = 0x7E; value = 0x55 ∷ [] }
+
+pub item-set-in : setIn (inTrack 0 2) item M ≡ newer
+unfolding strike.setIn strike.setInParts strike.setInTrack strike.setAt said.partsOf said.opened encode.encode encode.packetOf encode.front encode.sectionBytes encode.packetLength encode.padding encode.described beBytes be items.split items.sectionOf items.bytesOf tracks.split tracks.tracksOf tracks.bytesOf map.layoutOf map.afterMaterial
+item-set-in = refl
+
+item-there : There (inTrack 0 2) M
+unfolding said.partsOf said.opened be items.split items.sectionOf tracks.split tracks.tracksOf map.layoutOf map.afterMaterial
+item-there = omega arith
+
+item-unknown : Unknown (inTrack 0 2) item
+unfolding judge.formOf judge.isKnown bytesAre
+item-unknown = record { unknown = refl; tag = omega arith; long = omega arith; bytes = λ i. by-number (0x55 ∷ []) (bytes-are (0x55 ∷ []) refl) i .fits }
+
+item-room : Room (inTrack 0 2) item M
+unfolding be map.layoutOf map.afterMaterial
+item-room = omega arith
+
+-- as the fourth theorem has it
+pub newer-alike : Accepted newer × Alike M newer
+newer-alike = rw item-set-in at (demand .set-in M M-accepted (inTrack 0 2) item item-there item-unknown item-room)
+
+-- and M is its remainder; the remainder of M with rate 9 has no rate
+pub newer-struck : strike.strike newer ≡ M
+unfolding strike.strike strike.struck strike.struckTrack strike.kept strike.materialStays strike.trackStays strike.isReserved said.listedOf said.partsOf said.opened encode.encode encode.packetOf encode.front encode.sectionBytes encode.packetLength encode.padding encode.described beBytes be items.split items.sectionOf items.bytesOf judge.formOf judge.isKnown answer.valueOf answer.codeOf answer.allowed judge.has tracks.split tracks.tracksOf tracks.bytesOf tracks.isListed knownType map.layoutOf map.afterMaterial
+newer-struck = refl
+
+pub reserved-struck : strike.strike reserved ≡ unrated
+unfolding strike.strike strike.struck strike.struckTrack strike.kept strike.materialStays strike.trackStays strike.isReserved said.listedOf said.partsOf said.opened encode.encode encode.packetOf encode.front encode.sectionBytes encode.packetLength encode.padding encode.described beBytes be items.split items.sectionOf items.bytesOf judge.formOf judge.isKnown answer.valueOf answer.codeOf answer.allowed judge.has tracks.split tracks.tracksOf tracks.bytesOf tracks.isListed knownType map.layoutOf map.afterMaterial
+reserved-struck = refl
+
+-- what M shows: first field 0, track 1, type 10, name A1, rate not available
+abbrev pub M-shows : Shown
+M-shows =
+    record {
+      count = 1;
+      material =
+          record { name = nothing; first = value.Is 0; last = value.Absent; markIn = value.Absent; markOut = value.Absent; size = value.Absent };
+      tracks =
+          record {
+            id = 1;
+            kind = 10;
+            rate = code.NotAvailable;
+            lines = code.Absent;
+            fields = code.Absent;
+            version = value.Absent;
+            name = bytes 3 (0x41 ∷ 0x31 ∷ 0x00 ∷ []);
+            aux = nothing;
+            mpeg = nothing;
+          }
+          ∷ [];
+    }
+
+pub M-shown : shownIn M ≡ M-shows
+unfolding be knownType items.split items.sectionOf find.find answer.valueOf answer.allowed answer.codeOf answer.isNull answer.materialOf answer.trackOf judge.has tracks.split tracks.tracksOf tracks.isListed tracks.listed tracks.recordOf map.afterMaterial map.layoutOf map.materialSays map.listedIn shown.materialShown shown.trackShown shown.shownIn
+M-shown = refl
+
+-- so the functions give that on M, and on M with `7E 01 55`
+pub M-answers : Answers M M-shows
+M-answers = rw (← M-shown) (answers M M-accepted)
+
+pub newer-answers : Answers newer M-shows
+newer-answers = rw (← M-shown, newer-alike .1) (answers newer newer-accepted)
+
+-- the shortest map says less: no track, and no first field
+abbrev pub shortest : List ℕ
+shortest =
+    0x00 ∷ 0x00 ∷ 0x00 ∷ 0x00 ∷ 0x01 ∷ 0xBC ∷ 0x00 ∷ 0x00 ∷ 0x00 ∷ 0x18 ∷ 0x00 ∷ 0x00 ∷ 0x00 ∷ 0x00 ∷ 0xE1 ∷ 0xE2
+    ∷ 0xE0 ∷ 0xFF ∷ 0x00 ∷ 0x00 ∷ 0x00 ∷ 0x00 ∷ 0x00 ∷ 0x00 ∷ []
+
+abbrev answer-0 : MapSays
+answer-0 =
+    record {
+      count = 0;
+      material =
+          record {
+            name = part.Absent;
+            first = value.Absent;
+            last = value.Absent;
+            «mark_in» = value.Absent;
+            «mark_out» = value.Absent;
+            size = value.Absent;
+          };
+    }
+
+pub shortest-accepted : Accepted shortest
+unfolding bytesAre be headerAt sizedAt packetAt knownType textOk items.split items.sectionOf items.sizeOf judge.formOf judge.isKnown judge.faultOf judge.countsAs judge.has judge.judgeItems judge.verdictOf find.find answer.valueOf answer.materialOf tracks.split tracks.tracksOf tracks.trackVerdict tracks.endVerdict tracks.judgeTracks tracks.tracksVerdict tracks.isListed tracks.listed map.afterMaterial map.layoutOf map.bothVerdict map.sectionsVerdict map.mapVerdict map.materialSays map.listedIn map.answerOf map.mapAt
+shortest-accepted = record { bytes = λ i. by-number shortest (bytes-are shortest refl) i .fits; alone = refl; says = answer-0; read = refl }
+
+shortest-count : shownIn shortest .count ≡ 0
+unfolding be knownType items.split items.sectionOf find.find answer.valueOf answer.allowed answer.codeOf answer.isNull answer.materialOf answer.trackOf judge.has tracks.split tracks.tracksOf tracks.isListed tracks.listed tracks.recordOf map.afterMaterial map.layoutOf map.materialSays map.listedIn shown.materialShown shown.trackShown shown.shownIn
+shortest-count = refl
+
+-- so no reader that refuses M, and none that gives one outcome on all maps, has the contract of `read`
+seen-count : MapSeen → ℕ
+seen-count (says n m) = n
+seen-count (refused r) = 2
+
+one-count : (m : List ℕ) (x : MapAnswer) → Accepted m → ReadGives m x → seen-count (mapSeen m x) ≡ shownIn m .count
+unfolding seen-count
+one-count m x h g = ap seen-count (answers m h .read x g)
+
+pub no-refusal : (r : Refusal) → ReadGives M (map-answer.Refused r) → ⊥
+unfolding seen-count
+no-refusal r g = let e = one-count M (map-answer.Refused r) M-accepted g ∙ ap (λ (s : Shown). s .count) M-shown in omega arith
+
+pub no-constant : (x : MapAnswer) → ReadGives M x → ReadGives shortest x → ⊥
+unfolding seen-count
+no-constant (map-answer.Says a) g k =
+    let e = one-count M (map-answer.Says a) M-accepted g ∙ ap (λ (s : Shown). s .count) M-shown in
+    let f = one-count shortest (map-answer.Says a) shortest-accepted k ∙ shortest-count in
+    omega arith
+no-constant (map-answer.Refused r) g k = no-refusal r g
+
+-- M and M with rate 9 do not answer alike: the rate is not available, or absent
+rateOf : TrackSeen → Code
+rateOf (holds t) = t .rate
+rateOf (TrackSeen.refused r) = code.Is 0
+
+M-rate : rateOf (kthSeen 0 (shownIn M .tracks)) ≡ code.NotAvailable
+unfolding rateOf kthSeen be knownType items.split items.sectionOf find.find answer.valueOf answer.allowed answer.codeOf answer.isNull answer.materialOf answer.trackOf judge.has tracks.split tracks.tracksOf tracks.isListed tracks.listed tracks.recordOf map.afterMaterial map.layoutOf map.materialSays map.listedIn shown.materialShown shown.trackShown shown.shownIn
+M-rate = refl
+
+reserved-rate : rateOf (kthSeen 0 (shownIn reserved .tracks)) ≡ code.Absent
+unfolding rateOf kthSeen be knownType items.split items.sectionOf find.find answer.valueOf answer.allowed answer.codeOf answer.isNull answer.materialOf answer.trackOf judge.has tracks.split tracks.tracksOf tracks.isListed tracks.listed tracks.recordOf map.afterMaterial map.layoutOf map.materialSays map.listedIn shown.materialShown shown.trackShown shown.shownIn
+reserved-rate = refl
+
+other-rate : code.NotAvailable ≡ code.Absent → ⊥
+other-rate e = let z : _≡_ {A = ℕ} 0 1 = cc in omega arith
+
+pub unlike : Alike M reserved → ⊥
+unlike e = other-rate (sym M-rate ∙ ap (λ (s : Shown). rateOf (kthSeen 0 (s .tracks))) e ∙ reserved-rate)
+
+-- so no reader that gives one record on all maps has the contract of `track`
+pub no-constant-track : (y : TrackAnswer) → TrackGives M 0 y → TrackGives reserved 0 y → ⊥
+unfolding rateOf shown.trackShown
+no-constant-track y g k =
+    other-rate (sym M-rate ∙ sym (ap rateOf (answers M M-accepted .track 0 y g)) ∙ same y ∙ ap rateOf (answers reserved reserved-accepted .track 0 y k) ∙ reserved-rate)
+  where
+    same : (y : TrackAnswer) → rateOf (trackSeen M y) ≡ rateOf (trackSeen reserved y)
+    same (track-answer.Record t) = refl
+    same (track-answer.Refused r) = refl

@@ -1,0 +1,125 @@
+-- Demand 3 through the functions of `map`: `read`, `track`, `id_of` and `types_of`, over their contracts as the checker reads them (`Reads.Post`). Proved in proofs/Functions.antt.
+use Prim.Native.Nat.{ℕ, zero, suc}
+use mathlib.Core.Path.{_≡_}
+use mathlib.Core.List.{List, [], _∷_, _++_}
+use lib.ListN.{length, set, replicate}
+use lib.Dec.{eqb}
+use Rattle.plate.specs.Choice.{pick}
+use contract.Lifetimes.{Lfts}
+use borrow.Fn.Kinds.{endedOf, Dens}
+use denote.Triple.Clauses.{AtExit}
+use Rattle.plate.specs.Plate.{refusal}
+use Rattle.plate.specs.declared.Refusal.{Refusal}
+use Rattle.items.specs.Items.{Item}
+use Rattle.track_section.specs.declared.Kth.{Kth}
+use Rattle.track_section.specs.declared.Kth.the-variants as kth
+use Rattle.track_section.specs.declared.Types.{Types}
+use Rattle.map.specs.declared.MapAnswer.{MapAnswer}
+use Rattle.map.specs.declared.MapAnswer.the-variants as map
+use Rattle.map.specs.declared.TrackAnswer.{TrackAnswer}
+use Rattle.map.specs.declared.TrackAnswer.the-variants as track
+use Rattle.map.specs.Shown.{MaterialShown, TrackShown, Shown, materialShown, trackShown, shownIn}
+use Rattle.map.proofs.read.Kinds as read-kinds
+use Rattle.map.proofs.read.Reads as read-reads
+use Rattle.map.proofs.track.Kinds as track-kinds
+use Rattle.map.proofs.track.Reads as track-reads
+use Rattle.map.proofs.id_of.Kinds as id-kinds
+use Rattle.map.proofs.id_of.Reads as id-reads
+use Rattle.map.proofs.types_of.Kinds as types-kinds
+use Rattle.map.proofs.types_of.Reads as types-reads
+use Rattle.newer.specs.Strike.{strike, Boundary, setIn}
+use Rattle.newer.specs.Demand.{Accepted, There, Unknown, Room}
+
+-- x is an outcome that the contract of `read` allows where the packet m stands, wherever that is in lent bytes
+pub record ReadGives (m : List ℕ) (x : MapAnswer) : Type 0 where
+  pub lifetimes : Lfts 1
+  pub arguments : Dens lifetimes read-kinds.ps
+  pub exit : AtExit (endedOf 1 read-kinds.ps read-kinds.r) lifetimes
+  pub before : List ℕ
+  pub after : List ℕ
+  pub bytes : arguments .0 .now ≡ before ++ (m ++ after)
+  pub position : arguments .1 .0 ≡ length before
+  pub post : read-reads.Post lifetimes arguments x exit
+
+-- y is an outcome that the contract of `track` allows there, for the track of number k
+pub record TrackGives (m : List ℕ) (k : ℕ) (y : TrackAnswer) : Type 0 where
+  pub lifetimes : Lfts 1
+  pub arguments : Dens lifetimes track-kinds.ps
+  pub exit : AtExit (endedOf 1 track-kinds.ps track-kinds.r) lifetimes
+  pub before : List ℕ
+  pub after : List ℕ
+  pub bytes : arguments .0 .now ≡ before ++ (m ++ after)
+  pub position : arguments .1 .0 ≡ length before
+  pub number : arguments .1 .1 .0 ≡ k
+  pub post : track-reads.Post lifetimes arguments y exit
+
+-- y is an outcome that the contract of `id_of` allows on the packet's bytes, for the track of an ID
+pub record IdGives (m : List ℕ) (id : ℕ) (y : Kth) : Type 0 where
+  pub lifetimes : Lfts 1
+  pub arguments : Dens lifetimes id-kinds.ps
+  pub exit : AtExit (endedOf 1 id-kinds.ps id-kinds.r) lifetimes
+  pub bytes : arguments .0 .now ≡ m
+  pub track : arguments .1 .0 ≡ id
+  pub post : id-reads.Post lifetimes arguments y exit
+
+-- t is an outcome that the contract of `types_of` allows there
+pub record TypesGives (m : List ℕ) (t : Types) : Type 0 where
+  pub lifetimes : Lfts 1
+  pub arguments : Dens lifetimes types-kinds.ps
+  pub exit : AtExit (endedOf 1 types-kinds.ps types-kinds.r) lifetimes
+  pub bytes : arguments .0 .now ≡ m
+  pub post : types-reads.Post lifetimes arguments t exit
+
+-- an outcome, with the bytes that its places point at for the places
+pub data MapSeen : Type 0 where
+  says : ℕ → MaterialShown → MapSeen
+  refused : Refusal → MapSeen
+
+abbrev pub mapSeen : List ℕ → MapAnswer → MapSeen
+mapSeen m (map.Says a) = says (a .count) (materialShown m (a .material))
+mapSeen m (map.Refused r) = refused r
+
+pub data TrackSeen : Type 0 where
+  holds : TrackShown → TrackSeen
+  refused : Refusal → TrackSeen
+
+abbrev pub trackSeen : List ℕ → TrackAnswer → TrackSeen
+trackSeen m (track.Record t) = holds (trackShown m t)
+trackSeen m (track.Refused r) = TrackSeen.refused r
+
+-- the k-th record, from 0; 16 where there is none
+unfoldable pub kthSeen : ℕ → List TrackShown → TrackSeen
+kthSeen k [] = TrackSeen.refused (refusal 16 0)
+kthSeen zero (t ∷ ts) = holds t
+kthSeen (suc k) (t ∷ ts) = kthSeen k ts
+
+-- the record of an ID, if there is one
+pub data IdSeen : Type 0 where
+  holds : TrackShown → IdSeen
+  nothing : IdSeen
+
+abbrev pub idSeen : List ℕ → Kth → IdSeen
+idSeen m (kth.Record t) = IdSeen.holds (trackShown m t)
+idSeen m kth.Nothing = nothing
+
+unfoldable pub ofId : ℕ → List TrackShown → IdSeen
+ofId id [] = nothing
+ofId id (t ∷ ts) = pick (eqb (t .id) id) (IdSeen.holds t) (ofId id ts)
+
+-- by ID, the types of some records
+unfoldable pub typesSeen : List ℕ → List TrackShown → List ℕ
+typesSeen types [] = types
+typesSeen types (t ∷ ts) = typesSeen (set types (t .id) (t .kind)) ts
+
+-- whatever the functions give on m is the one answer
+pub record Answers (m : List ℕ) (answer : Shown) : Type 0 where
+  pub read : (x : MapAnswer) → ReadGives m x → mapSeen m x ≡ says (answer .count) (answer .material)
+  pub track : (k : ℕ) (y : TrackAnswer) → TrackGives m k y → trackSeen m y ≡ kthSeen k (answer .tracks)
+  pub by-id : (id : ℕ) (y : Kth) → IdGives m id y → idSeen m y ≡ ofId id (answer .tracks)
+  pub types : (t : Types) → TypesGives m t → t .kinds ≡ typesSeen (replicate 64 0) (answer .tracks)
+
+pub record Functions : Type 0 where
+  -- on an accepted map, and on its remainder
+  pub one-answer : (m : List ℕ) → Accepted m → Answers m (shownIn m) × Answers (strike m) (shownIn m)
+  -- on the map with an unknown item set in
+  pub set-in : (m : List ℕ) → Accepted m → (b : Boundary) (i : Item) → There b m → Unknown b i → Room b i m → Answers (setIn b i m) (shownIn m)

@@ -1,0 +1,3 @@
+pub mod Demand
+pub mod Functions
+pub mod Strike

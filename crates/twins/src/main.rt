@@ -1,0 +1,310 @@
+// Maps that were made outside, each followed by its twin, which lacks what the reader doesn't know: whether the two answer alike, places aside.
+// The last pairs are no twins and must not.
+use answer::Code;
+use answer::Material;
+use answer::Track;
+use answer::Value;
+use items::Part;
+use libc::STDOUT_FILENO;
+use map::MapAnswer;
+use map::TrackAnswer;
+use packet::PacketAnswer;
+ghost use Prim.Native.Nat.{_≤_};
+ghost use lib.ListN.{length};
+
+fn say(text: &[u8]) {
+    io::write_all(STDOUT_FILENO, text);
+}
+
+fn figure(n: usize) {
+    say(b" ");
+    io::print_decimal(STDOUT_FILENO, n as u64);
+}
+
+// A file's first bytes; none where it cannot be read.
+fn load(path: &[u8], buffer: &mut [u8]) -> usize
+    ensures { λ r. ⌜ r ≤ length (now (buffer .entry)) ⌝ }
+{
+    let file = os::open_read(path);
+    if file < 0 {
+        os::fail(path);
+        return 0;
+    }
+    let n = io::read_full(file, buffer);
+    libc::close(file);
+    n
+}
+
+// Whether n bytes from a place of p on are those from a place of q on; they have to lie in them.
+fn same_bytes(p: &[u8], i: usize, q: &[u8], j: usize, n: usize) -> bool {
+    if p.len() < i {
+        return false;
+    }
+    if p.len() - i < n {
+        return false;
+    }
+    if q.len() < j {
+        return false;
+    }
+    if q.len() - j < n {
+        return false;
+    }
+    let mut k: usize = 0;
+    while k < n {
+        if p[i + k] != q[j + k] {
+            return false;
+        }
+        k += 1;
+    }
+    true
+}
+
+// Present in both with the same stored length and the same bytes, or absent from both.
+fn same_part(p: &[u8], a: Part, q: &[u8], b: Part) -> bool {
+    match a {
+        Part::At(i, n) => match b {
+            Part::At(j, m) => {
+                if n != m {
+                    return false;
+                }
+                same_bytes(p, i, q, j, n)
+            }
+            Part::Absent => false,
+        },
+        Part::Absent => match b {
+            Part::At(_, _) => false,
+            Part::Absent => true,
+        },
+    }
+}
+
+fn same_value(a: Value, b: Value) -> bool {
+    match a {
+        Value::Is(n) => match b {
+            Value::Is(m) => n == m,
+            Value::Absent => false,
+        },
+        Value::Absent => match b {
+            Value::Is(_) => false,
+            Value::Absent => true,
+        },
+    }
+}
+
+// A number for each code; of one that is given, the code.
+fn code_number(c: Code) -> usize {
+    match c {
+        Code::Is(n) => number::wide(n),
+        Code::NotApplicable => 1001,
+        Code::NotAvailable => 1002,
+        Code::Absent => 1003,
+    }
+}
+
+fn same_code(a: Code, b: Code) -> bool {
+    code_number(a) == code_number(b)
+}
+
+fn same_material(p: &[u8], a: Material, q: &[u8], b: Material) -> bool {
+    let x = a.first;
+    let y = b.first;
+    if same_value(x, y) {} else {
+        return false;
+    }
+    let x = a.last;
+    let y = b.last;
+    if same_value(x, y) {} else {
+        return false;
+    }
+    let x = a.mark_in;
+    let y = b.mark_in;
+    if same_value(x, y) {} else {
+        return false;
+    }
+    let x = a.mark_out;
+    let y = b.mark_out;
+    if same_value(x, y) {} else {
+        return false;
+    }
+    let x = a.size;
+    let y = b.size;
+    if same_value(x, y) {} else {
+        return false;
+    }
+    let x = a.name;
+    let y = b.name;
+    same_part(p, x, q, y)
+}
+
+fn same_codes(a: Track, b: Track) -> bool {
+    if a.id != b.id {
+        return false;
+    }
+    if a.kind != b.kind {
+        return false;
+    }
+    let x = a.rate;
+    let y = b.rate;
+    if same_code(x, y) {} else {
+        return false;
+    }
+    let x = a.lines;
+    let y = b.lines;
+    if same_code(x, y) {} else {
+        return false;
+    }
+    let x = a.fields;
+    let y = b.fields;
+    if same_code(x, y) {} else {
+        return false;
+    }
+    let x = a.version;
+    let y = b.version;
+    same_value(x, y)
+}
+
+fn same_track(p: &[u8], a: Track, q: &[u8], b: Track) -> bool {
+    if same_codes(a, b) {} else {
+        return false;
+    }
+    let x = a.name;
+    let y = b.name;
+    if same_part(p, x, q, y) {} else {
+        return false;
+    }
+    let x = a.aux;
+    let y = b.aux;
+    if same_part(p, x, q, y) {} else {
+        return false;
+    }
+    let x = a.mpeg;
+    let y = b.mpeg;
+    same_part(p, x, q, y)
+}
+
+// The k-th track: a record in both that is the same, or a refusal with 16 in both.
+fn same_kth(p: &[u8], q: &[u8], k: usize) -> bool {
+    match map::track(p, 0, k) {
+        TrackAnswer::Record(a) => match map::track(q, 0, k) {
+            TrackAnswer::Record(b) => same_track(p, a, q, b),
+            TrackAnswer::Refused(_) => false,
+        },
+        TrackAnswer::Refused(r) => match map::track(q, 0, k) {
+            TrackAnswer::Record(_) => false,
+            TrackAnswer::Refused(t) => {
+                if r.number != 16 {
+                    return false;
+                }
+                t.number == 16
+            }
+        },
+    }
+}
+
+// Each of the n listed tracks, and that there are no more.
+fn same_tracks(p: &[u8], q: &[u8], n: usize) -> bool {
+    let mut k: usize = 0;
+    while k < n {
+        if same_kth(p, q, k) {
+            k += 1;
+        } else {
+            return false;
+        }
+    }
+    same_kth(p, q, n)
+}
+
+fn same_answer(p: &[u8], q: &[u8]) -> bool {
+    match map::read(p, 0) {
+        MapAnswer::Says(a) => match map::read(q, 0) {
+            MapAnswer::Says(b) => {
+                if a.count != b.count {
+                    return false;
+                }
+                let x = a.material;
+                let y = b.material;
+                if same_material(p, x, q, y) {
+                    return same_tracks(p, q, a.count);
+                }
+                false
+            }
+            MapAnswer::Refused(_) => false,
+        },
+        MapAnswer::Refused(_) => false,
+    }
+}
+
+fn show_count(p: &[u8]) {
+    match map::read(p, 0) {
+        MapAnswer::Says(a) => {
+            figure(a.count);
+            say(b" tracks");
+        }
+        MapAnswer::Refused(r) => {
+            say(b" refused");
+            figure(number::wide(r.number));
+            figure(r.place);
+        }
+    }
+}
+
+fn show_pair(kind: &[u8], n: usize, p: &[u8], q: &[u8]) {
+    say(kind);
+    figure(n);
+    say(b":");
+    figure(p.len());
+    say(b" and");
+    figure(q.len());
+    say(b" bytes,");
+    show_count(p);
+    if same_answer(p, q) {
+        say(b", alike\n");
+    } else {
+        say(b", unlike\n");
+    }
+}
+
+// The length of the packet at a place; 0 where there is none.
+fn length_at(s: &[u8], at: usize) -> usize {
+    match packet::of_type(s, at, packet::MAP) {
+        PacketAnswer::Whole(w) => w.len,
+        PacketAnswer::Refused(_) => 0,
+    }
+}
+
+fn show_pairs(kind: &[u8], s: &[u8]) {
+    let mut at: usize = 0;
+    let mut n: usize = 0;
+    while at < s.len() {
+        let a = length_at(s, at);
+        if a == 0 {
+            return;
+        }
+        if s.len() - at < a {
+            return;
+        }
+        let e = at + a;
+        let b = length_at(s, e);
+        if s.len() - e < b {
+            return;
+        }
+        let f = e + b;
+        n += 1;
+        show_pair(kind, n, &s[at..e], &s[e..f]);
+        at = f;
+    }
+}
+
+fn show_file(path: &[u8], kind: &[u8]) {
+    let mut buffer = [0u8; 131072];
+    let n = load(path, &mut buffer);
+    say(path);
+    say(b"\n");
+    show_pairs(kind, &buffer[0..n]);
+}
+
+fn main() {
+    show_file(b"pairs.gxf", b"pair");
+    show_file(b"full.gxf", b"pair");
+    show_file(b"controls.gxf", b"control");
+}
