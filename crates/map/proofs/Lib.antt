@@ -4,3 +4,4 @@ pub mod Laws
 pub mod Once
 pub mod Parts
 pub mod Said
+pub mod Within

@@ -5,13 +5,14 @@ use mathlib.Core.Bool.{Bool, true, false}
 use mathlib.Core.List.{List, [], _∷_, _++_}
 use native.Mathlib.Omega.{arith}
 use native.Mathlib.Numerals.{add-one}
-use borrow.Author.Tests.{lt-ltb, le-ltb, ltb-true, ltb-false, le-leb, lt-leb, leb-true, leb-false}
+use borrow.Author.Tests.{lt-ltb, le-ltb, ltb-true, ltb-false, le-leb, lt-leb, leb-true, leb-false, ne-eqb}
 use lib.ListN.{length, getD, drop}
 use lib.Seq.{drop-cons}
 use lib.Dec.{ltb, leb, eqb}
 use Rattle.plate.specs.Choice.{pick}
 use Rattle.text.specs.Text.{textOk}
 use Rattle.items.specs.Judge.{has}
+use Rattle.answer.specs.Answer.{allowed}
 use Rattle.map_writer.specs.declared.Slot.{Slot}
 use Rattle.map_writer.specs.Given.{slotAt, slots, trackAt, tracksFrom}
 use Rattle.map_writer.specs.Sizes.{slotSize, slotsSize, tracksSize, capped}
@@ -42,6 +43,25 @@ text-cons x (y ∷ r) = refl
 pub text-at : (v : List ℕ) (i : ℕ) → i < length v
     → textOk (drop i v ++ (0 ∷ [])) ≡ pick (eqb (getD v i 0) 0) false (pick (ltb (getD v i 0) 0x80) (textOk (drop (i + 1) v ++ (0 ∷ []))) false)
 text-at v i h = rw (drop-cons v i 0 h, add-one) (text-cons (getD v i 0) (drop (suc i) v))
+
+-- no code of Table 6 is over 8
+pub over-allowed : (tag n : ℕ) → 8 < n → allowed tag n ≡ false
+unfolding allowed has
+over-allowed tag n h =
+    simp (le-leb 1 n (omega arith), lt-leb n 8 (omega arith), ne-eqb n 1 (λ e. omega arith), ne-eqb n 2 (λ e. omega arith), ne-eqb n 4 (λ e. omega arith), ne-eqb n 6 (λ e. omega arith))
+    (go (eqb tag 0x50) (eqb tag 0x51))
+  where
+    go : (x y : Bool) → pick x false (pick y false false) ≡ false
+    go true y = refl
+    go false true = refl
+    go false false = refl
+
+pub allowed-over : (tag n : ℕ) → allowed tag n ≡ true → n ≤ 8
+allowed-over tag n e = go (leb n 8) refl
+  where
+    go : (b : Bool) → leb n 8 ≡ b → n ≤ 8
+    go true q = leb-true n 8 q
+    go false q = absurd (let z : false ≡ true = sym (over-allowed tag n (leb-false n 8 q)) ∙ e in let y : _≡_ {A = ℕ} 0 1 = cc in omega arith)
 
 -- the graver of two
 pub graver-lt : (a b : ℕ) → a < b → graver a b ≡ b

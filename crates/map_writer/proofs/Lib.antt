@@ -4,4 +4,5 @@ pub mod Once
 pub mod Packet
 pub mod PutTracks
 pub mod Puts
+pub mod Told
 pub mod Worked

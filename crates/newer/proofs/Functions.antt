@@ -19,7 +19,7 @@ use Rattle.newer.specs.Strike.{strike, setIn}
 use Rattle.newer.specs.Demand.{Accepted}
 use Rattle.newer.specs.Functions.{ReadGives, TrackGives, trackSeen, kthSeen, IdGives, TypesGives, IdSeen, idSeen, ofId, typesSeen, Answers, Functions}
 use Rattle.newer.proofs.Parts.{accepted-verdict, accepted-header}
-use Rattle.newer.proofs.Within.{read-there, track-there}
+use Rattle.map.proofs.Within.{read-there, track-there}
 use Rattle.newer.proofs.Demand.{remainder-accepted, remainder-alike, set-in-alike}
 
 -- what the contracts allow is what the definitions give

@@ -5,4 +5,3 @@ pub mod Items
 pub mod Outside
 pub mod Parts
 pub mod Tracks
-pub mod Within

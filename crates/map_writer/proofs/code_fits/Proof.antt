@@ -1,16 +1,10 @@
 use borrow.Author.Needs.{needs}
 use Rattle.map_writer.proofs.code_fits.Statement.{statement}
 use Rattle.map_writer.proofs.code_fits.Tie as tie
-use native.Mathlib.Omega.{arith}
 use Rattle.plate.proofs.Tests.{tests}
-use borrow.Author.Tests.{le-leb, lt-leb, ne-eqb}
+use borrow.Author.Tests.{ne-eqb}
 use Rattle.map_writer.specs.Write.{codeFits}
-use Rattle.items.specs.Judge.{has}
-use mathlib.Core.Path.{_≡_, refl}
-use Rattle.answer.specs.Answer.{allowed}
-use mathlib.Core.Bool.{Bool, true, false}
-use lib.Dec.{eqb}
-use Rattle.plate.specs.Choice.{pick}
+use Rattle.map_writer.proofs.Laws.{over-allowed}
 
 returns : tie.Need-returns
 unfolding codeFits
@@ -21,15 +15,8 @@ unfolding codeFits
 returns-2 c = search tests
 
 returns-3 : tie.Need-returns-3
-unfolding codeFits allowed has
-returns-3 c =
-    let n = c .before .before .before .args .n in
-    simp (ne-eqb n 0xFFFFFFFFFFFFFFFF (c .before .before .if1 .left), ne-eqb n 0xFFFFFFFFFFFFFFFE (c .before .if2 .left), le-leb 1 n (omega arith), lt-leb n 8 (omega arith), ne-eqb n 1 (λ e. omega arith), ne-eqb n 2 (λ e. omega arith), ne-eqb n 4 (λ e. omega arith), ne-eqb n 6 (λ e. omega arith)) (go (eqb (c .before .before .before .args .tag) 0x50) (eqb (c .before .before .before .args .tag) 0x51))
-  where
-    go : (x y : Bool) → false ≡ pick x false (pick y false false)
-    go true y = refl
-    go false true = refl
-    go false false = refl
+unfolding codeFits
+returns-3 c = let n = c .before .before .before .args .n in simp (ne-eqb n 0xFFFFFFFFFFFFFFFF (c .before .before .if1 .left), ne-eqb n 0xFFFFFFFFFFFFFFFE (c .before .if2 .left), over-allowed (c .before .before .before .args .tag) n (c .if3 .taken))
 
 cast-is-allowed : tie.Need-cast-is-allowed
 cast-is-allowed c = search needs
