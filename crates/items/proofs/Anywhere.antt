@@ -23,9 +23,6 @@ pub both-accepted : (v w : Verdict) → andThen v w ≡ Accepted → (v ≡ Acce
 both-accepted Accepted w e = (refl, e)
 both-accepted (Refused r) w e = absurd (let z : _≡_ {A = ℕ} 0 1 = cc in omega arith)
 
-pub accepted-both : (v w : Verdict) → v ≡ Accepted → w ≡ Accepted → andThen v w ≡ Accepted
-accepted-both v w e f = rw (e, f)
-
 pub judge-anywhere : (section : Section) (seen : List ℕ) (p q : ℕ) (is : List Item) → judgeItems section seen p is ≡ Accepted → judgeItems section seen q is ≡ Accepted
 unfolding judgeItems
 judge-anywhere section seen p q [] e = refl

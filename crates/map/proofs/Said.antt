@@ -196,7 +196,7 @@ module _ (p : List ℕ) where
   tracks-shown (One a) w = refl
   tracks-shown Neither w = refl
 
-length-map : {A B : Type 0} (f : A → B) (xs : List A) → length (map f xs) ≡ length xs
+pub length-map : {A B : Type 0} (f : A → B) (xs : List A) → length (map f xs) ≡ length xs
 length-map f [] = refl
 length-map f (x ∷ xs) = ap suc (length-map f xs)
 

@@ -1,5 +1,5 @@
 -- The parts of a map, struck and with an item set in; and an accepted map by its parts.
-use Prim.Native.Nat.{ℕ, suc, _+_, _-_, _<_}
+use Prim.Native.Nat.{ℕ, _+_, _-_, _<_}
 use mathlib.Core.Path.{_≡_, refl, sym, _∙_, ap}
 use mathlib.Core.Bool.{true, false}
 use mathlib.Core.List.{List, [], _∷_, _++_, map}
@@ -31,7 +31,7 @@ use Rattle.map.specs.declared.MapAnswer.{MapAnswer}
 use Rattle.map.specs.declared.MapAnswer.the-variants as answer
 use Rattle.map.proofs.Encoded.{Fit, header-of-encoded}
 use Rattle.map.proofs.Parts.{material-bytes, tracks-bytes, parts-fit, parts-good, good-encoded}
-use Rattle.map.proofs.Said.{same-value}
+use Rattle.map.proofs.Said.{same-value, length-map}
 use Rattle.newer.specs.Strike.{kept, materialStays, struckTrack, struck, Boundary, inMaterial, inTrack, setAt, setInTrack, setInParts}
 use Rattle.newer.specs.Demand.{Bytes, Accepted, sectionAt, Room, There}
 use Rattle.newer.proofs.Items.{kept-again, kept-set, kept-good, set-good, kept-size, set-size, kept-bytes, set-bytes, kept-held}
@@ -76,10 +76,6 @@ material-struck is =
       same-value (find 0x44 0 (kept materialStays is)) (find 0x44 0 is) (held 0x44 refl is),
       same-value (find 0x45 0 (kept materialStays is)) (find 0x45 0 is) (held 0x45 refl is),
     )
-
-length-map : {A B : Type 0} (f : A → B) (xs : List A) → length (map f xs) ≡ length xs
-length-map f [] = refl
-length-map f (x ∷ xs) = ap suc (length-map f xs)
 
 pub struck-said : (p : MapParts) → Good p → saidBy (struck p) ≡ saidBy p
 unfolding saidBy struck
