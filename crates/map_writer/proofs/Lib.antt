@@ -1,8 +1,10 @@
 pub mod Ids
+pub mod Judged
 pub mod Laws
 pub mod Once
 pub mod Packet
 pub mod PutTracks
 pub mod Puts
+pub mod RoundTrip
 pub mod Told
 pub mod Worked

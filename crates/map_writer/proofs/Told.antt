@@ -1,14 +1,14 @@
 -- What the lists of a written map say is what was given.
-use Prim.Native.Nat.{ℕ, zero, suc, _+_, _-_, _*_, _/_, _<_, _≤_, _^_}
+use Prim.Native.Nat.{ℕ, zero, suc, _+_, _*_, _/_, _<_, _^_}
 use mathlib.Core.Path.{_≡_, refl, sym, _∙_, ap}
 use mathlib.Core.Bool.{Bool, true, false}
 use mathlib.Core.List.{List, [], _∷_, _++_, map, append-nil}
 use native.Mathlib.Omega.{arith}
 use native.Mathlib.Nat.{add-sub-cancel-left}
-use borrow.Author.Tests.{eq-eqb, ne-eqb, eqb-true, eqb-false, leb-true, leb-false, le-leb, lt-leb}
+use borrow.Author.Tests.{eq-eqb, ne-eqb, eqb-true, leb-true}
 use lib.ListN.{length, getD, take, drop, length-append, length-drop}
 use lib.Seq.{length-take-le}
-use lib.Dec.{eqb, leb}
+use lib.Dec.{eqb}
 use Rattle.plate.specs.Choice.{pick}
 use Rattle.number.specs.Number.{be, beBytes}
 use Rattle.number.proofs.Laws.{be-back, length-beBytes}
@@ -17,16 +17,15 @@ use Rattle.items.specs.Judge.{has}
 use Rattle.media_type.specs.MediaType.{knownType}
 use Rattle.answer.specs.Answer as answer
 use Rattle.answer.specs.Answer.{allowed, codeOf, isNull}
-use Rattle.answer.specs.declared.Value.{Value}
 use Rattle.answer.specs.declared.Value.the-variants as value
 use Rattle.answer.specs.declared.Code.the-variants as code
 use Rattle.track_section.specs.Tracks.{isListed}
-use Rattle.map.specs.Encode.{TrackParts, described}
-use Rattle.map.specs.Shown.{Held, nothing, bytes, MaterialShown, TrackShown}
+use Rattle.map.specs.Encode.{described}
+use Rattle.map.specs.Shown.{nothing, bytes}
 use Rattle.map.specs.Said.{heldOf, materialSaid, trackSaid, listedOf, saidBy}
 use Rattle.map.proofs.Said.{same-value, same-null}
 use Rattle.map_writer.specs.declared.Slot.{Slot}
-use Rattle.map_writer.specs.Given.{slotAt, slots, materialSlots, Given, trackAt, tracksFrom, tracksGiven}
+use Rattle.map_writer.specs.Given.{slotAt, slots, materialSlots, Given, trackAt, tracksFrom}
 use Rattle.map_writer.specs.Write.{isText, isEight, isCode, codeFits, fits, slotFault, slotsFault, given, nullName, barred, ownFault, tracksFault, valueOf, itemsOf, partsOfTrack, partsOf}
 use Rattle.map_writer.specs.Told.{heldTold, valueTold, codeTold, materialTold, trackTold, tracksTold, told}
 use Rattle.map_writer.proofs.Laws.{none-graver, allowed-over, text-fits, gives-4D, gives-4E, gives-4F, names-null}
@@ -92,6 +91,15 @@ number-read v h =
     let b : be (beBytes 4 v) 0 4 ≡ v = rw append-nil at (be-back [] 4 v [] h) in
     rw (length-beBytes 4 v, b)
 
+-- −1 and −2 in 64 bits are −1 and −2 in 32
+minus-one : answer.valueOf (found 0 (beBytes 4 0xFFFFFFFFFFFFFFFF)) ≡ value.Is 0xFFFFFFFF
+unfolding answer.valueOf be beBytes
+minus-one = refl
+
+minus-two : answer.valueOf (found 0 (beBytes 4 0xFFFFFFFFFFFFFFFE)) ≡ value.Is 0xFFFFFFFE
+unfolding answer.valueOf be beBytes
+minus-two = refl
+
 one-is-null : (n : ℕ) → eqb (n + 1) 1 ≡ eqb n 0
 one-is-null zero = refl
 one-is-null (suc n) = ne-eqb (suc n + 1) 1 (λ z. omega arith) ∙ sym (ne-eqb (suc n) 0 (λ z. omega arith))
@@ -120,18 +128,19 @@ module _ (text : List ℕ) (s : Slot) where
         go false e = refl
 
     pub code-told : isText (s .tag) ≡ false → isEight (s .tag) ≡ false → isCode (s .tag) ≡ true → codeOf (s .tag) (answer.valueOf (slotFound text s)) ≡ codeTold s
-    unfolding slotFound codeTold valueOf answer.valueOf fits codeFits codeOf be beBytes
+    unfolding slotFound codeTold valueOf answer.valueOf fits codeFits codeOf
     code-told f g c = go (eqb (s .mark) 1) refl
       where
         read : (x : Bool) → eqb (s .first) 0xFFFFFFFFFFFFFFFF ≡ x → (y : Bool) → eqb (s .first) 0xFFFFFFFFFFFFFFFE ≡ y
             → pick x true (pick y true (allowed (s .tag) (s .first))) ≡ true
             → codeOf (s .tag) (answer.valueOf (found 0 (beBytes 4 (s .first))))
             ≡ pick x code.NotApplicable (pick y code.NotAvailable (code.Is (s .first)))
-        read true p y q a = rw (eqb-true (s .first) 0xFFFFFFFFFFFFFFFF p)
-        read false p true q a = rw (eqb-true (s .first) 0xFFFFFFFFFFFFFFFE q)
+        read true p y q a = rw (eqb-true (s .first) 0xFFFFFFFFFFFFFFFF p, minus-one)
+        read false p true q a = rw (eqb-true (s .first) 0xFFFFFFFFFFFFFFFE q, minus-two)
         read false p false q a =
             let l = allowed-over (s .tag) (s .first) a in
             rw (number-read (s .first) (omega arith)) (simp (ne-eqb (s .first) 0xFFFFFFFF (λ z. omega arith), ne-eqb (s .first) 0xFFFFFFFE (λ z. omega arith), a))
+
         go : (b : Bool) → eqb (s .mark) 1 ≡ b
             → codeOf (s .tag) (answer.valueOf (pick b (found 0 (pick (isText (s .tag)) (take (s .second) (drop (s .first) text) ++ (0 ∷ [])) (pick (isEight (s .tag)) (take (s .second) (drop (s .first) text)) (beBytes 4 (s .first))))) missing))
             ≡ pick b (pick (eqb (s .first) 0xFFFFFFFFFFFFFFFF) code.NotApplicable (pick (eqb (s .first) 0xFFFFFFFFFFFFFFFE) code.NotAvailable (code.Is (s .first)))) code.Absent
@@ -196,6 +205,7 @@ hidden-none ss = go (nullName ss) (given 0x4D ss) (given 0x4E ss) (given 0x4F ss
   where
     no : {X : Type 0} → true ≡ false → X
     no e = absurd (let y : _≡_ {A = ℕ} 0 1 = cc in omega arith)
+
     go : (n a b c : Bool) → pick n (pick a true (pick b true c)) false ≡ false → n ≡ true → (a ≡ false) × (b ≡ false) × (c ≡ false)
     go true true b c e f = no e
     go true false true c e f = no e

@@ -1,0 +1,128 @@
+-- The round trip: what was written at its place is read there as what was given, and the bytes before and after it are as they were.
+use Prim.Native.Nat.{ℕ, _+_, _-_, _≤_}
+use mathlib.Core.Path.{_≡_, refl, sym, _∙_}
+use mathlib.Core.Bool.{Bool, true, false}
+use mathlib.Core.List.{List, map, append-assoc}
+use native.Mathlib.Omega.{arith}
+use borrow.Author.Tests.{eqb-true, ltb-false}
+use lib.ListN.{length, take, drop}
+use lib.Seq.{length-take-le}
+use lib.Dec.{eqb, ltb}
+use Rattle.plate.specs.Choice.{pick}
+use Rattle.plate.specs.declared.Refusal.{Refusal}
+use Rattle.packet.specs.Packet.{headerAt}
+use Rattle.packet.specs.declared.PacketAnswer.the-variants.{Whole}
+use Rattle.packet.proofs.Laws.{whole}
+use Rattle.track_section.specs.Tracks.{kthOf}
+use Rattle.track_section.proofs.Split as split
+use Rattle.map.specs.Map.{materialSays, listedIn, mapAt, trackAt, onKth}
+use Rattle.map.specs.declared.MapAnswer.the-variants.{Says}
+use Rattle.map.specs.Encode.{described, encode}
+use Rattle.map.specs.Shown.{shownIn}
+use Rattle.map.proofs.Encoded.{Fit, header-of-encoded}
+use Rattle.map.proofs.Parts.{good-encoded}
+use Rattle.map.proofs.Said.{shown-encoded}
+use Rattle.map.proofs.Within.{read-there, track-there}
+use Rattle.packet_writer.specs.Write.{refused}
+use Rattle.packet_writer.specs.declared.WriteAnswer.the-variants.{Length, Refused}
+use Rattle.packet_writer.proofs.Laws.{framed}
+use Rattle.map_writer.specs.Given.{tracksGiven}
+use Rattle.map_writer.specs.Told.{told}
+use Rattle.map_writer.specs.Write.{partsOf, partsOfTrack, packetOf, faultOf, materialLength, tracksLength, writeOf, written}
+use Rattle.map_writer.proofs.Packet.{Clean, clean, material-size, material-short}
+use Rattle.map_writer.proofs.Told.{parts-told}
+use Rattle.map_writer.proofs.Judged.{parts-good}
+use contract.Lifetimes.{Lfts}
+use borrow.Fn.Kinds.{endedOf, Dens}
+use denote.Triple.Clauses.{AtExit}
+use Rattle.map_writer.proofs.write.Kinds as kinds
+use Rattle.map_writer.proofs.write.Reads as reads
+
+-- a packet has its header
+length-of-header : (m : List ℕ) → headerAt m 0 ≡ Whole (record { kind = 0xBC; len = length m }) → 16 ≤ length m
+length-of-header m h = whole m 0 (record { kind = 0xBC; len = length m }) h .least
+
+-- of a buffer, what was given, the length answered, and the buffer afterwards: the map is read back whole, and all else is as it was
+pub record ReadBack (out : List ℕ) (at : ℕ) (text ms ts : List ℕ) (n : ℕ) (now : List ℕ) : Type 0 where
+  -- the packet stands at its place, and the answer is its length
+  pub long : n ≡ length (packetOf text ms ts)
+  pub stands : take n (drop at now) ≡ packetOf text ms ts
+  -- the reader's answer there: count, material, and the records by their number
+  pub read : mapAt now at ≡ Says (record { count = length (listedIn (packetOf text ms ts)); material = materialSays (packetOf text ms ts) })
+  pub track : (k : ℕ) → trackAt now at k ≡ onKth (kthOf k (listedIn (packetOf text ms ts)))
+  -- it shows what was given: the count of tracks, the material's items, and every record in order, with the bytes at the places
+  pub shown : shownIn (packetOf text ms ts) ≡ told text ms ts
+  pub before : take at now ≡ take at out
+  pub after : drop (at + n) now ≡ drop (at + n) out
+  pub lengths : length now ≡ length out
+
+-- a length was answered: there was no fault, the sections fit, and there was room
+record Answered (out : List ℕ) (at : ℕ) (text ms ts : List ℕ) (n : ℕ) : Type 0 where
+  none : faultOf text ms ts ≡ 0
+  short : tracksLength (partsOf text ms ts) ≤ 65535
+  lens : n ≡ length (packetOf text ms ts)
+  room : length (packetOf text ms ts) ≤ length out - at
+
+module _ (out : List ℕ) (at : ℕ) (text ms ts : List ℕ) (n : ℕ) where
+  answered : writeOf out at text ms ts ≡ Length n → Answered out at text ms ts n
+  unfolding writeOf
+  answered = go (eqb (faultOf text ms ts) 0) refl (ltb 65535 (materialLength (partsOf text ms ts))) (ltb 65535 (tracksLength (partsOf text ms ts))) refl (ltb (length out - at) (length (packetOf text ms ts))) refl
+    where
+      go : (a : Bool) → eqb (faultOf text ms ts) 0 ≡ a → (b c : Bool) → ltb 65535 (tracksLength (partsOf text ms ts)) ≡ c → (d : Bool) → ltb (length out - at) (length (packetOf text ms ts)) ≡ d
+          → pick a (pick (pick b true c) (refused 25) (pick d (refused 13) (Length (length (packetOf text ms ts))))) (refused (faultOf text ms ts)) ≡ Length n → Answered out at text ms ts n
+      go true p false false q false r e =
+          let l : n ≡ length (packetOf text ms ts) = cc in
+          record { none = eqb-true (faultOf text ms ts) 0 p; short = omega (arith, ltb-false); lens = l; room = omega (arith, ltb-false) }
+      go true p true c q d r e = absurd (let z : _≡_ {A = ℕ} 0 1 = cc in omega arith)
+      go true p false true q d r e = absurd (let z : _≡_ {A = ℕ} 0 1 = cc in omega arith)
+      go true p false false q true r e = absurd (let z : _≡_ {A = ℕ} 0 1 = cc in omega arith)
+      go false p b c q d r e = absurd (let z : _≡_ {A = ℕ} 0 1 = cc in omega arith)
+
+  -- the packet's parts fit their length words
+  fit : Clean text ms ts → tracksLength (partsOf text ms ts) ≤ 65535 → Fit (partsOf text ms ts)
+  unfolding partsOf
+  fit c h =
+      let ds = map described (map (partsOfTrack text) (tracksGiven ts)) in
+      record {
+        four = refl;
+        material = let a = material-size text ms ts c in let b = material-short text ms ts c in omega arith;
+        tracks = omega arith;
+        each = split.sized ds (omega (arith, split.length-bytes ds));
+      }
+
+  pub round-trip : writeOf out at text ms ts ≡ Length n → ReadBack out at text ms ts n (written out at text ms ts)
+  unfolding written packetOf
+  round-trip e =
+      let a = answered e in
+      let c = clean text ms ts (a .none) in
+      let f = fit c (a .short) in
+      let p = encode (partsOf text ms ts) in
+      let h = header-of-encoded (partsOf text ms ts) f in
+      let v = good-encoded (partsOf text ms ts) f (parts-good text ms ts c) in
+      let lens = a .lens in
+      let room = a .room in
+      let some = length-of-header p h in
+      let q = take at out in
+      let r = drop (at + length p) out in
+      let l : length q ≡ at = length-take-le at out (omega arith) in
+      let g = framed out at p (omega arith) in
+      rw (e, lens)
+      record {
+        long = refl;
+        stands = g .stands;
+        read = rw (append-assoc q p r) (rw l at (read-there q p r h v));
+        track = λ k. rw (append-assoc q p r) (rw l at (track-there q p r h v k));
+        shown = shown-encoded (partsOf text ms ts) f ∙ parts-told text ms ts c;
+        before = g .before;
+        after = g .after;
+        lengths = g .lengths;
+      }
+
+-- what the contract says of a length answered: the buffer at exit reads back as what was given; and of a refusal: the buffer is as it was
+pub write-reads-back : (κs : Lfts 4) (a : Dens κs kinds.ps) (n : ℕ) (s : AtExit (endedOf 4 kinds.ps kinds.r) κs)
+    → reads.Post κs a (Length n) s → ReadBack (a .0 .now) (a .1 .0) (a .1 .1 .0 .now) (a .1 .1 .1 .0 .now) (a .1 .1 .1 .1 .0 .now) n (s .0 .now)
+write-reads-back κs a n s p = rw (p .1) (round-trip (a .0 .now) (a .1 .0) (a .1 .1 .0 .now) (a .1 .1 .1 .0 .now) (a .1 .1 .1 .1 .0 .now) n (sym (p .0)))
+
+pub refused-stays : (κs : Lfts 4) (a : Dens κs kinds.ps) (r : Refusal) (s : AtExit (endedOf 4 kinds.ps kinds.r) κs) → reads.Post κs a (Refused r) s → s .0 .now ≡ a .0 .now
+unfolding written
+refused-stays κs a r s p = p .1 ∙ rw (← p .0)
