@@ -14,6 +14,11 @@ unfoldable pub placeAfter : ℕ → PacketAnswer → ℕ
 placeAfter at (Whole p) = at + p .len
 placeAfter at (Refused r) = at
 
+-- the place after n steps from a place
+unfoldable pub placeOf : List ℕ → ℕ → ℕ → ℕ
+placeOf s at zero = at
+placeOf s at (suc n) = placeAfter (placeOf s at n) (headerAt s (placeOf s at n))
+
 -- one was made of a stream and a place
 unfoldable pub Made : RefT (List ℕ) → ℕ → Walker → Type 0
 Made s at w = w ≡ record { stream = s; at = at }
@@ -23,11 +28,6 @@ unfoldable pub Stepped : Walker → PacketAnswer → Walker → Type 0
 Stepped w r v =
     (r ≡ headerAt (now (w .stream)) (w .at))
     × (v ≡ record { stream = w .stream; at = placeAfter (w .at) (headerAt (now (w .stream)) (w .at)) })
-
--- the place after n steps from a place
-unfoldable pub placeOf : List ℕ → ℕ → ℕ → ℕ
-placeOf s at zero = at
-placeOf s at (suc n) = placeAfter (placeOf s at n) (headerAt s (placeOf s at n))
 
 abbrev pub stop : ℕ → PacketAnswer → Stop
 stop at a = record { at = at; answer = a }

@@ -17,7 +17,7 @@ pub struct Stop {
 }
 
 // The place after a step: behind a whole packet; the same place where the step is refused.
-pub fn after(s: &[u8], at: usize) -> usize
+fn after(s: &[u8], at: usize) -> usize
     ensures { λ r. ⌜ r ≡ placeAfter at (headerAt (now (s .entry)) at) ⌝ }
 {
     match packet::header(s, at) {

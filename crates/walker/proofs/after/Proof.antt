@@ -1,10 +1,6 @@
 use borrow.Author.Needs.{needs}
 use Rattle.walker.proofs.after.Statement.{statement}
 use Rattle.walker.proofs.after.Tie as tie
-use Rattle.walker.proofs.after.Reads as reads
-use Rattle.walker.proofs.after.Lts as lts
-use Rattle.packet.proofs.header.Reads as header-reads
-use borrow.Author.Needs.{needs}
 use native.Mathlib.Omega.{arith}
 use mathlib.Core.Path.{sym, _∙_}
 use Rattle.packet.proofs.Laws.{whole}

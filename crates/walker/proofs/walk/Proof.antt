@@ -2,10 +2,10 @@
 -- and comes back at the last value that `step`'s contract says. All that the proof knows of the three functions is that each meets its contract.
 -- The lifetime of a loan is the meet of a new one with the stream's, as `step` asks that the stream outlives it.
 -- Assumes nothing.
-use mathlib.Core.Path.{_≡_, refl, sym, ap, _∙_}
+use mathlib.Core.Path.{_≡_, refl, ap, _∙_}
 use mathlib.Core.Bool.{Bool, true, false}
 use mathlib.Core.WellFounded.{WellFounded, InvImage·wf}
-use Prim.Native.Nat.{ℕ, zero, suc, _+_, _-_, _≤_, _<_, _^_, zero-le}
+use Prim.Native.Nat.{ℕ, _+_, _-_, _≤_, _<_, _^_, zero-le}
 use native.Mathlib.Nat.{le-antisymm, lt-of-le-of-lt}
 use native.Mathlib.Numerals.{add-one, add-one-le, add-one-dec}
 use mathlib.Core.List.{List, [], _∷_}
@@ -44,7 +44,6 @@ use denote.Signature.{plain}
 use denote.Builtin.{u8, usize}
 use denote.Steps.{only, owned, nothing, peeks, heard}
 use denote.Enum.Laws as EL
-use denote.Struct.Declared.{Declared}
 use denote.Struct.Laws as LL
 use denote.Struct.Steps.{spelt}
 use denote.Triple.Statement.{Contract, Triple}
