@@ -76,6 +76,7 @@ counted s at m = go (packetAt s at 0xBC)
     in-packet : (p : List ℕ) (v : Verdict) → onVerdict v (map.Says (record { count = length (listedIn p); material = materialSays p })) ≡ map.Says m → m .count ≡ length (each recordOf (listedIn p))
     in-packet p verdict.Accepted e = let c : m .count ≡ length (listedIn p) = cc in c ∙ sym (length-map (listedIn p) recordOf)
     in-packet p (verdict.Refused r) e = absurd (let z : _≡_ {A = ℕ} 0 1 = cc in omega arith)
+
     go : (a : PacketAnswer) → mapFrom s at a ≡ map.Says m → m .count ≡ length (recordsFrom s at a)
     go (packet.Refused r) e = absurd (let z : _≡_ {A = ℕ} 0 1 = cc in omega arith)
     go (packet.Whole w) e = in-packet (part at (at + w .len) s) (mapVerdict (part at (at + w .len) s)) e
@@ -99,6 +100,7 @@ module _ (s : List ℕ) (at : ℕ) (ys : List Track) where
       roomy m c false e =
           let h : m .count ≤ length ys = ltb-false (length ys) (m .count) e in
           record { fits = h; listed = omega arith; leaves = rw c (upTo-all ts ys (omega arith)) }
+
       go : (a : MapAnswer) → mapAt s at ≡ a → Writes (withRoom (length ys) a)
       go (map.Refused r) e = record { fits = omega arith; listed = omega arith; leaves = refl }
       go (map.Says m) e = roomy m (counted s at m e) (ltb (length ys) (m .count)) refl

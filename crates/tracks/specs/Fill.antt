@@ -1,7 +1,7 @@
 -- Lent track records (01, Map, "Reading fills lent track records, one struct for each listed track in map order").
 use Prim.Native.Nat.{ℕ, _+_}
 use mathlib.Core.Path.{_≡_}
-use mathlib.Core.List.{List, [], _∷_, _++_, map as each}
+use mathlib.Core.List.{List, [], _++_, map as each}
 use lib.ListN.{length, drop}
 use lib.Dec.{ltb}
 use Rattle.plate.specs.Choice.{pick}

@@ -1,12 +1,6 @@
 use borrow.Author.Needs.{needs}
 use Rattle.tracks.proofs.answer_for.Statement.{statement}
 use Rattle.tracks.proofs.answer_for.Tie as tie
-use Rattle.tracks.proofs.answer_for.Reads as reads
-use Rattle.tracks.proofs.answer_for.Lts as lts
-use Rattle.map.proofs.read.Reads as read-reads
-use Rattle.plate.proofs.refuse.Reads as refuse-reads
-use borrow.Author.Needs.{needs}
-use native.Mathlib.Omega.{arith}
 use mathlib.Core.Path.{sym, _∙_}
 use borrow.Author.Tests.{lt-ltb, le-ltb}
 use Rattle.tracks.specs.Fill.{answerFor}

@@ -56,7 +56,7 @@ use Rattle.answer.proofs.Track.Laws as T′
 use Rattle.map.specs.declared.MapAnswer.{MapAnswer}
 use Rattle.map.proofs.MapAnswer as S
 use Rattle.map.proofs.MapAnswer.Laws as S′
-use Rattle.tracks.specs.Fill.{recordsAt, answerFor, lentAfter, written, blank, Filled}
+use Rattle.tracks.specs.Fill.{recordsAt, answerFor, written, blank, Filled}
 use Rattle.tracks.proofs.Laws.{upTo, length-upTo, upTo-more, writes}
 use Rattle.tracks.proofs.answer_for as answers
 use Rattle.tracks.proofs.answer_for.Symbol as answers-def

@@ -1,12 +1,6 @@
 use borrow.Author.Needs.{needs}
 use Rattle.tracks.proofs.record_at.Statement.{statement}
 use Rattle.tracks.proofs.record_at.Tie as tie
-use Rattle.tracks.proofs.record_at.Reads as reads
-use Rattle.tracks.proofs.record_at.Lts as lts
-use Rattle.map.proofs.kth_of.Reads as kth-of-reads
-use Rattle.packet.proofs.of_type.Reads as of-type-reads
-use Rattle.tracks.proofs.blank_track.Reads as blank-track-reads
-use borrow.Author.Needs.{needs}
 use native.Mathlib.Omega.{arith}
 use mathlib.Core.Path.{sym, ap, _∙_}
 use Rattle.packet.proofs.Laws.{typed, whole}

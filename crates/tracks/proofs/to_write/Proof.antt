@@ -1,10 +1,6 @@
 use borrow.Author.Needs.{needs}
 use Rattle.tracks.proofs.to_write.Statement.{statement}
 use Rattle.tracks.proofs.to_write.Tie as tie
-use Rattle.tracks.proofs.to_write.Reads as reads
-use Rattle.tracks.proofs.to_write.Lts as lts
-use borrow.Author.Needs.{needs}
-use native.Mathlib.Omega.{arith}
 use Rattle.tracks.specs.Fill.{written}
 
 enum-known-a : tie.Need-enum-known-a
