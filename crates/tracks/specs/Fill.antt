@@ -34,20 +34,7 @@ withRoom room (map.Says m) = pick (ltb room (m .count)) (map.Refused (refusal 13
 unfoldable pub answerFor : List ℕ → ℕ → ℕ → MapAnswer
 answerFor s at room = withRoom room (mapAt s at)
 
--- the lent records ys after an answer: a refused call leaves every one; else the listed tracks' come first, and those past the last stay
-unfoldable pub lentAfter : List Track → List Track → MapAnswer → List Track
-lentAfter ts ys (map.Refused r) = ys
-lentAfter ts ys (map.Says m) = ts ++ drop (length ts) ys
-
--- a call on the records ys gave the answer r and left the records zs
-unfoldable pub Filled : List Track → List ℕ → ℕ → MapAnswer → List Track → Type 0
-Filled ys s at r zs = (r ≡ answerFor s at (length ys)) × (zs ≡ lentAfter (recordsAt s at) ys (answerFor s at (length ys)))
-
--- what the parts of the call give: how many records an answer stands for, and a record in which nothing is present
-unfoldable pub written : MapAnswer → ℕ
-written (map.Refused r) = 0
-written (map.Says m) = m .count
-
+-- a record in which nothing is present: what the function by value gives where there is no such track. It is never written
 unfoldable pub blank : Track
 blank =
     record {
@@ -61,3 +48,17 @@ blank =
       aux = item.Absent;
       mpeg = item.Absent;
     }
+
+-- how many records an answer stands for
+unfoldable pub written : MapAnswer → ℕ
+written (map.Refused r) = 0
+written (map.Says m) = m .count
+
+-- the lent records ys after an answer: a refused call leaves every one; else the listed tracks' come first, and those past the last stay
+unfoldable pub lentAfter : List Track → List Track → MapAnswer → List Track
+lentAfter ts ys (map.Refused r) = ys
+lentAfter ts ys (map.Says m) = ts ++ drop (length ts) ys
+
+-- a call on the records ys gave the answer r and left the records zs
+unfoldable pub Filled : List Track → List ℕ → ℕ → MapAnswer → List Track → Type 0
+Filled ys s at r zs = (r ≡ answerFor s at (length ys)) × (zs ≡ lentAfter (recordsAt s at) ys (answerFor s at (length ys)))
