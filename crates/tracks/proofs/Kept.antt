@@ -4,10 +4,10 @@ use mathlib.Core.Path.{_≡_, refl, sym, ap, _∙_}
 use mathlib.Core.Bool.{Bool, true, false}
 use mathlib.Core.List.{List, [], _∷_, _++_, map as each}
 use native.Mathlib.Omega.{arith}
-use lib.ListN.{length, getD, drop, length-map}
+use lib.ListN.{length, getD, drop}
 use lib.Dec.{ltb}
 use lib.Seq.{take-append-seam, drop-append-seam, getD-take}
-use borrow.Author.Tests.{ltb-false, lt-ltb, le-ltb}
+use borrow.Author.Tests.{ltb-false, lt-ltb, le-ltb, ltb-true}
 use Rattle.plate.specs.Choice.{pick}
 use Rattle.plate.specs.Plate.{refusal}
 use Rattle.plate.specs.declared.Refusal.{Refusal}
@@ -18,7 +18,6 @@ use Rattle.items.specs.declared.Verdict.{Verdict}
 use Rattle.items.specs.declared.Verdict.the-variants as verdict
 use Rattle.answer.specs.declared.Track.{Track}
 use Rattle.track_section.specs.Tracks.{Placed, recordOf, kthOf}
-use Rattle.track_section.specs.declared.Kth.the-variants as kth
 use Rattle.map.specs.Map.{part, listedIn, materialSays, mapVerdict, onVerdict, onTrack, onKth, answerOf, mapFrom, mapAt, trackIn, trackFrom, trackAt}
 use Rattle.map.specs.declared.MapAnswer.{MapAnswer}
 use Rattle.map.specs.declared.MapAnswer.the-variants as map
@@ -26,6 +25,7 @@ use Rattle.map.specs.declared.MapSays.{MapSays}
 use Rattle.map.specs.declared.TrackAnswer.the-variants as track
 use Rattle.tracks.specs.Fill.{recordsFrom, recordsAt, withRoom, answerFor, blank, lentAfter, Filled}
 use Rattle.tracks.proofs.Laws.{counted}
+use Rattle.map.proofs.Numbers.{map-refused}
 
 -- a refused call leaves every record
 pub refused-stays : (ys : List Track) (s : List ℕ) (at : ℕ) (r : Refusal) (zs : List Track) → Filled ys s at (map.Refused r) zs → zs ≡ ys
@@ -109,3 +109,21 @@ module _ (ys : List Track) (s : List ℕ) (at : ℕ) (m : MapSays) (zs : List Tr
   -- the k-th record is what the reader by value gives of the k-th listed track
   pub kth-is : (k : ℕ) → k < m .count → trackAt s at k ≡ track.Record (getD zs k blank)
   kth-is k h = rw (record-in k h) (by-value s at m k h (says .0))
+
+-- 13 falls only there: no map is refused with it
+pub record Short (s : List ℕ) (at room : ℕ) : Type 0 where
+  pub map-says : MapSays
+  pub accepted-map : mapAt s at ≡ map.Says map-says
+  pub fewer : room < map-says .count
+
+pub thirteen : (s : List ℕ) (at room : ℕ) (r : Refusal) → answerFor s at room ≡ map.Refused r → r .number ≡ 13 → Short s at room
+unfolding answerFor
+thirteen s at room r e n = go (mapAt s at) refl e
+  where
+    roomy : (m : MapSays) → mapAt s at ≡ map.Says m → (b : Bool) → ltb room (m .count) ≡ b → pick b (map.Refused (refusal 13 0)) (map.Says m) ≡ map.Refused r → Short s at room
+    roomy m q true t f = record { map-says = m; accepted-map = q; fewer = ltb-true room (m .count) t }
+    roomy m q false t f = absurd (let z : _≡_ {A = ℕ} 0 1 = cc in omega arith)
+
+    go : (a : MapAnswer) → mapAt s at ≡ a → withRoom room a ≡ map.Refused r → Short s at room
+    go (map.Refused t) q f = absurd (let k : t .number ≡ r .number = cc in omega (arith, map-refused s at t q .1))
+    go (map.Says m) q f = roomy m q (ltb room (m .count)) refl f
