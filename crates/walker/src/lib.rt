@@ -2,8 +2,9 @@
 // The functions over the struct are proved by hand and thin. `walk` takes a plain slice and numbers: callers of it need no proof by hand.
 use packet::PacketAnswer;
 ghost use mathlib.Core.Path.{_≡_};
+ghost use lib.ListN.{length};
 ghost use Rattle.packet.specs.Packet.{headerAt};
-ghost use Rattle.walker.specs.Walk.{placeAfter, Made, Stepped, stop, walkOf};
+ghost use Rattle.walker.specs.Walk.{placeAfter, Made, Stepped, stop, turnsOf, walkOf};
 
 pub struct Walker<'a> {
     pub stream: &'a [u8],
@@ -50,8 +51,8 @@ pub fn step<'s, 'a>(w: &'s mut Walker<'a>) -> PacketAnswer
     answer
 }
 
-// Where a walker stops after n steps from a place of a stream, and what its next step gives.
-pub fn walk(s: &[u8], at: usize, n: usize) -> Stop
+// A walker that is made, takes n steps and one more: where it stood then, and what it met.
+fn steps(s: &[u8], at: usize, n: usize) -> Stop
     ensures { λ r. ⌜ r ≡ walkOf (now (s .entry)) at n ⌝ }
 {
     let mut w = make(s, at);
@@ -63,4 +64,22 @@ pub fn walk(s: &[u8], at: usize, n: usize) -> Stop
     let place = w.at;
     let answer = step(&mut w);
     stop_at(place, answer)
+}
+
+// So many of n steps that the others stay where they are: a packet has 16 bytes at least.
+fn turns(s: &[u8], n: usize) -> usize
+    ensures { λ r. ⌜ r ≡ turnsOf (length (now (s .entry))) n ⌝ }
+{
+    let most = s.len() / 16 + 1;
+    if n < most {
+        return n;
+    }
+    most
+}
+
+// Where a walker stops after n steps from a place of a stream, and what its next step gives.
+pub fn walk(s: &[u8], at: usize, n: usize) -> Stop
+    ensures { λ r. ⌜ r ≡ walkOf (now (s .entry)) at n ⌝ }
+{
+    steps(s, at, turns(s, n))
 }
