@@ -1,4 +1,4 @@
--- Which numbers the refusal of a section's items can have: 8 to 11; of all that a map's own refusals are, 7 to 12.
+-- The refusal of a section's items has a number from 7 to 12, as all of a map's own refusals have.
 use Prim.Native.Nat.{ℕ, _+_, _≤_}
 use mathlib.Core.Bool.{Bool, true, false}
 use mathlib.Core.List.{List, [], _∷_}
