@@ -23,7 +23,7 @@ def tidy(text):
         if l in seen:
             continue
         seen.add(l)
-        m = re.match(r'use (\S+) as (\S+)$', l)
+        m = re.match(r'use ([^\s{]+) as (\S+)$', l)
         if m:
             if re.search(r'(?:^|%s)%s\.' % (EDGE, re.escape(m.group(2))), body, re.M):
                 out.append(l)

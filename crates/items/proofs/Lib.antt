@@ -1,6 +1,7 @@
 pub mod Anywhere
 pub mod Judged
 pub mod Lookup
+pub mod Numbers
 pub mod Once
 pub mod Places
 pub mod Split
