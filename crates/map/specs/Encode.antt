@@ -1,5 +1,6 @@
 -- A map packet put together (RDD 14, 7.1; 01, "Map"): true lengths, and the fewest zeros as padding.
--- It is a packet where the four reserved bytes are four and each section and track is under 65,536 bytes: the laws ask that (`Fit`).
+-- It is a packet where the reserved bytes of the header are four, each section and track is under 65,536 bytes (the laws ask that: `Fit` in proofs/Encoded.antt),
+-- each value has 255 bytes at most, and each number given for a byte is one.
 use Prim.Native.Nat.{ℕ, _+_, _-_, _%_}
 use mathlib.Core.List.{List, [], _∷_, _++_, map}
 use lib.ListN.{length, replicate}
@@ -37,7 +38,7 @@ sectionBytes m t = beBytes 2 (length m) ++ (m ++ (beBytes 2 (length t) ++ t))
 unfoldable pub packetLength : List ℕ → List ℕ → ℕ
 packetLength m t = 22 + length m + length t + padding (22 + length m + length t)
 
--- leader, type BC, length, reserved, trailer; version E0 and the reserved byte
+-- leader, type BC, length, reserved, trailer; version E0 and the reserved byte. With four zeros it begins with the header of packet_writer's `headerOf`
 unfoldable pub front : ℕ → List ℕ → ℕ → List ℕ
 front len spare second = 0 ∷ 0 ∷ 0 ∷ 0 ∷ 1 ∷ 0xBC ∷ (beBytes 4 len ++ (spare ++ (0xE1 ∷ 0xE2 ∷ 0xE0 ∷ second ∷ [])))
 

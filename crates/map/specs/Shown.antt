@@ -71,7 +71,7 @@ trackShown p t =
       mpeg = heldAt p (t .mpeg);
     }
 
--- what the map packet p shows
+-- what the map packet p shows, by lengths alone: on a map that the reader accepts, its answer
 unfoldable pub shownIn : List ℕ → Shown
 shownIn p =
     record {

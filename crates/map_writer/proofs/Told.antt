@@ -1,5 +1,5 @@
 -- What the lists of a written map say is what was given.
-use Prim.Native.Nat.{ℕ, zero, suc, _+_, _*_, _/_, _<_, _^_}
+use Prim.Native.Nat.{ℕ, zero, suc, _+_, _*_, _/_, _<_, _^_, _≤_}
 use mathlib.Core.Path.{_≡_, refl, sym, _∙_, ap}
 use mathlib.Core.Bool.{Bool, true, false}
 use mathlib.Core.List.{List, [], _∷_, _++_, map, append-nil}
@@ -21,15 +21,15 @@ use Rattle.answer.specs.declared.Value.the-variants as value
 use Rattle.answer.specs.declared.Code.the-variants as code
 use Rattle.track_section.specs.Tracks.{isListed}
 use Rattle.map.specs.Encode.{described}
-use Rattle.map.specs.Shown.{nothing, bytes}
+use Rattle.map.specs.Shown.{Held, nothing, bytes}
 use Rattle.map.specs.Said.{heldOf, materialSaid, trackSaid, listedOf, saidBy}
 use Rattle.map.proofs.Said.{same-value, same-null}
 use Rattle.map_writer.specs.declared.Slot.{Slot}
 use Rattle.map_writer.specs.Given.{slotAt, slots, materialSlots, Given, trackAt, tracksFrom}
 use Rattle.map_writer.specs.Write.{isText, isEight, isCode, codeFits, fits, slotFault, slotsFault, given, nullName, barred, ownFault, tracksFault, valueOf, itemsOf, partsOfTrack, partsOf}
-use Rattle.map_writer.specs.Told.{heldTold, valueTold, codeTold, materialTold, trackTold, tracksTold, told}
+use Rattle.map_writer.specs.Told.{textTold, eightTold, valueTold, codeTold, materialTold, trackTold, tracksTold, told}
 use Rattle.map_writer.proofs.Laws.{none-graver, allowed-over, text-fits, gives-4D, gives-4E, gives-4F, names-null}
-use Rattle.map_writer.proofs.Puts.{present-fits}
+use Rattle.map_writer.proofs.Puts.{present-fits, eight-fits}
 use Rattle.map_writer.proofs.PutTracks.{own-known, tracks-clean}
 use Rattle.map_writer.proofs.Packet.{Clean}
 
@@ -91,6 +91,13 @@ number-read v h =
     let b : be (beBytes 4 v) 0 4 ≡ v = rw append-nil at (be-back [] 4 v [] h) in
     rw (length-beBytes 4 v, b)
 
+-- a text and its 00
+text-long : (text : List ℕ) (s : Slot) → s .first + s .second ≤ length text → length (take (s .second) (drop (s .first) text) ++ (0 ∷ [])) ≡ s .second + 1
+text-long text s h =
+    let v = take (s .second) (drop (s .first) text) in
+    let l : length v ≡ s .second = length-take-le (s .second) (drop (s .first) text) (simp length-drop (omega arith)) in
+    length-append v (0 ∷ []) ∙ omega arith
+
 -- −1 and −2 in 64 bits are −1 and −2 in 32
 minus-one : answer.valueOf (found 0 (beBytes 4 0xFFFFFFFFFFFFFFFF)) ≡ value.Is 0xFFFFFFFF
 unfolding answer.valueOf be beBytes
@@ -105,16 +112,31 @@ one-is-null zero = refl
 one-is-null (suc n) = ne-eqb (suc n + 1) 1 (λ z. omega arith) ∙ sym (ne-eqb (suc n) 0 (λ z. omega arith))
 
 module _ (text : List ℕ) (s : Slot) where
-  -- a text, or 4D
-  pub held-told : heldOf (slotFound text s) ≡ heldTold text s
-  unfolding heldOf slotFound heldTold
-  held-told = go (eqb (s .mark) 1)
-    where
-      go : (b : Bool) → heldOf (pick b (found 0 (valueOf text s)) missing) ≡ pick b (bytes (length (valueOf text s)) (valueOf text s)) nothing
-      go true = refl
-      go false = refl
-
   module _ (h : slotFault text s ≡ 0) where
+    -- a text has its 00, and 4D its eight bytes
+    pub text-told : isText (s .tag) ≡ true → heldOf (slotFound text s) ≡ textTold text s
+    unfolding heldOf slotFound textTold valueOf
+    text-told f = go (eqb (s .mark) 1) refl
+      where
+        go : (b : Bool) → eqb (s .mark) 1 ≡ b
+            → heldOf (pick b (found 0 (pick (isText (s .tag)) (take (s .second) (drop (s .first) text) ++ (0 ∷ [])) (pick (isEight (s .tag)) (take (s .second) (drop (s .first) text)) (beBytes 4 (s .first))))) missing)
+            ≡ pick b (bytes (s .second + 1) (take (s .second) (drop (s .first) text) ++ (0 ∷ []))) nothing
+        go true e = rw (f, text-long text s (text-fits text s f (present-fits text s (eqb-true (s .mark) 1 e) h) .0))
+        go false e = refl
+
+    pub eight-told : isText (s .tag) ≡ false → isEight (s .tag) ≡ true → heldOf (slotFound text s) ≡ eightTold text s
+    unfolding heldOf slotFound eightTold valueOf
+    eight-told f g = go (eqb (s .mark) 1) refl
+      where
+        go : (b : Bool) → eqb (s .mark) 1 ≡ b
+            → heldOf (pick b (found 0 (pick (isText (s .tag)) (take (s .second) (drop (s .first) text) ++ (0 ∷ [])) (pick (isEight (s .tag)) (take (s .second) (drop (s .first) text)) (beBytes 4 (s .first))))) missing)
+            ≡ pick b (bytes 8 (take 8 (drop (s .first) text))) nothing
+        go true e =
+            let a = eight-fits text s f g (present-fits text s (eqb-true (s .mark) 1 e) h) in
+            let l : length (take 8 (drop (s .first) text)) ≡ 8 = length-take-le 8 (drop (s .first) text) (simp length-drop (omega (arith, a .1))) in
+            rw (f, g, a .0, l)
+        go false e = refl
+
     pub value-told : isText (s .tag) ≡ false → isEight (s .tag) ≡ false → isCode (s .tag) ≡ false → answer.valueOf (slotFound text s) ≡ valueTold s
     unfolding slotFound valueTold valueOf answer.valueOf fits
     value-told f g c = go (eqb (s .mark) 1) refl
@@ -159,10 +181,7 @@ module _ (text : List ℕ) (s : Slot) where
             ≡ pick b (eqb (s .second) 0) false
         go true e =
             let a = text-fits text s f (present-fits text s (eqb-true (s .mark) 1 e) h) in
-            let v = take (s .second) (drop (s .first) text) in
-            let l : length v ≡ s .second = length-take-le (s .second) (drop (s .first) text) (simp length-drop (omega (arith, a .0))) in
-            let k : length (v ++ (0 ∷ [])) ≡ s .second + 1 = length-append v (0 ∷ []) ∙ omega arith in
-            rw (f, k) (one-is-null (s .second))
+            rw (f, text-long text s (a .0)) (one-is-null (s .second))
         go false e = refl
 
 -- the material: each slot by its tag
@@ -181,7 +200,7 @@ module _ (text ms : List ℕ) (h : slotsFault text (materialSlots ms) ≡ 0) whe
   unfolding materialSaid materialTold isText isEight isCode has
   material-told =
       rw (
-        material-held 0 0x40 0 (omega arith) refl refl ∙ held-told text (slotAt ms 0 0x40),
+        material-held 0 0x40 0 (omega arith) refl refl ∙ text-told text (slotAt ms 0 0x40) (slot-of text ms 0 6 0 0x40 0x40 0 (omega arith) refl refl h) refl,
         material-value 1 0x41 3 (omega arith) refl refl refl refl refl,
         material-value 2 0x42 6 (omega arith) refl refl refl refl refl,
         material-value 3 0x43 9 (omega arith) refl refl refl refl refl,
@@ -251,16 +270,26 @@ module _ (text ts : List ℕ) (at : ℕ) (own : ownFault (trackAt ts at) ≡ 0) 
           same-value _ _ (track-held 2 0x4E (at + 8) (omega arith) refl (omega arith))
           ∙ value-told text (slotAt ts (at + 8) 0x4E) (track-fault 2 0x4E (at + 8) (omega arith) refl (omega arith)) refl refl refl
 
-  held-is : (k tag place : ℕ) → k < 7 → tag ≡ 0x4C + k → place ≡ at + 2 + 3 * k → (nullName (trackAt ts at .slots) ≡ true → eqb (getD ts place 0) 1 ≡ false)
-      → pick (nullName (trackAt ts at .slots)) nothing (heldOf (find tag 0 (itemsOf text (trackAt ts at .slots)))) ≡ heldTold text (slotAt ts place tag)
-  unfolding heldTold
-  held-is k tag place l e f n = go (nullName (trackAt ts at .slots)) refl
+  -- 4D and 4F, which a null name would hide
+  hides : (h k : Held) (place : ℕ) → (nullName (trackAt ts at .slots) ≡ true → eqb (getD ts place 0) 1 ≡ false) → h ≡ pick (eqb (getD ts place 0) 1) k nothing
+      → pick (nullName (trackAt ts at .slots)) nothing h ≡ pick (eqb (getD ts place 0) 1) k nothing
+  hides h k place n e = go (nullName (trackAt ts at .slots)) refl
     where
-      go : (b : Bool) → nullName (trackAt ts at .slots) ≡ b
-          → pick b nothing (heldOf (find tag 0 (itemsOf text (trackAt ts at .slots))))
-          ≡ pick (eqb (getD ts place 0) 1) (bytes (length (valueOf text (slotAt ts place tag))) (valueOf text (slotAt ts place tag))) nothing
+      go : (b : Bool) → nullName (trackAt ts at .slots) ≡ b → pick b nothing h ≡ pick (eqb (getD ts place 0) 1) k nothing
       go true q = rw (n q)
-      go false q = track-held k tag place l e f ∙ held-told text (slotAt ts place tag)
+      go false q = e
+
+  aux-is : pick (nullName (trackAt ts at .slots)) nothing (heldOf (find 0x4D 0 (itemsOf text (trackAt ts at .slots)))) ≡ eightTold text (slotAt ts (at + 5) 0x4D)
+  unfolding eightTold isText isEight has
+  aux-is =
+      hides _ _ (at + 5) (λ e. hidden e .0)
+      (track-held 1 0x4D (at + 5) (omega arith) refl (omega arith) ∙ eight-told text (slotAt ts (at + 5) 0x4D) (track-fault 1 0x4D (at + 5) (omega arith) refl (omega arith)) refl refl)
+
+  mpeg-is : pick (nullName (trackAt ts at .slots)) nothing (heldOf (find 0x4F 0 (itemsOf text (trackAt ts at .slots)))) ≡ textTold text (slotAt ts (at + 11) 0x4F)
+  unfolding textTold isText has
+  mpeg-is =
+      hides _ _ (at + 11) (λ e. hidden e .2)
+      (track-held 3 0x4F (at + 11) (omega arith) refl (omega arith) ∙ text-told text (slotAt ts (at + 11) 0x4F) (track-fault 3 0x4F (at + 11) (omega arith) refl (omega arith)) refl)
 
   pub track-told : trackSaid (partsOfTrack text (trackAt ts at)) ≡ trackTold text ts at
   unfolding trackSaid trackTold isText isEight isCode has
@@ -270,9 +299,9 @@ module _ (text ts : List ℕ) (at : ℕ) (own : ownFault (trackAt ts at) ≡ 0) 
         add-sub-cancel-left,
         null-is,
         version-is,
-        held-is 1 0x4D (at + 5) (omega arith) refl (omega arith) (λ e. hidden e .0),
-        held-is 3 0x4F (at + 11) (omega arith) refl (omega arith) (λ e. hidden e .2),
-        track-held 0 0x4C (at + 2) (omega arith) refl (omega arith) ∙ held-told text (slotAt ts (at + 2) 0x4C),
+        aux-is,
+        mpeg-is,
+        track-held 0 0x4C (at + 2) (omega arith) refl (omega arith) ∙ text-told text (slotAt ts (at + 2) 0x4C) (track-fault 0 0x4C (at + 2) (omega arith) refl (omega arith)) refl,
         track-code 4 0x50 (at + 14) (omega arith) refl (omega arith) refl refl refl,
         track-code 5 0x51 (at + 17) (omega arith) refl (omega arith) refl refl refl,
         track-code 6 0x52 (at + 20) (omega arith) refl (omega arith) refl refl refl,

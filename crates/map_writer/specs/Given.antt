@@ -1,10 +1,12 @@
--- What the map writer is given (docs/DECISIONS.md, S12): slots of three words, in records over a lent text.
+-- What the map writer is given (docs/DECISIONS.md, S12): slots of three words, in records over a lent text. A slot is for one tag.
+-- Its mark is 1 for present and 0 for absent; of an absent slot no other word is looked at. A text or 4D has its place in the text first and its length second;
+-- a number or a code stands first, and its second word is not looked at.
 use Prim.Native.Nat.{ℕ, zero, suc, _+_, _/_}
 use mathlib.Core.List.{List, [], _∷_}
 use lib.ListN.{length, getD}
 use Rattle.map_writer.specs.declared.Slot.{Slot}
 
--- the slot that begins at a word: its mark (1 present, 0 absent) and its two words
+-- the slot that begins at a word: its mark and its two words
 abbrev pub slotAt : List ℕ → ℕ → ℕ → Slot
 slotAt ws at tag = record { tag = tag; mark = getD ws at 0; first = getD ws (at + 1) 0; second = getD ws (at + 2) 0 }
 

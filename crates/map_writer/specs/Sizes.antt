@@ -1,4 +1,4 @@
--- How many bytes the items of slots take: what the writer counts before it writes. Of an input with a fault the sizes mean nothing, but fit their numbers.
+-- How many bytes the items of slots take: what the writer counts before it writes. Of an input with a fault the sizes mean nothing, but stay small enough to be added up.
 use Prim.Native.Nat.{ℕ, _+_}
 use mathlib.Core.List.{List, [], _∷_, map}
 use mathlib.Core.Bool.{Bool, true, false}

@@ -1,7 +1,7 @@
 -- What was given, as an answer shows it, places aside: what a reader of the written map is to be told.
 use Prim.Native.Nat.{ℕ, zero, suc, _+_, _/_}
-use mathlib.Core.List.{List, [], _∷_}
-use lib.ListN.{length, getD}
+use mathlib.Core.List.{List, [], _∷_, _++_}
+use lib.ListN.{length, getD, take, drop}
 use lib.Dec.{eqb}
 use Rattle.plate.specs.Choice.{pick}
 use Rattle.answer.specs.declared.Value.{Value}
@@ -11,11 +11,14 @@ use Rattle.answer.specs.declared.Code.the-variants as code
 use Rattle.map.specs.Shown.{Held, nothing, bytes, MaterialShown, TrackShown, Shown}
 use Rattle.map_writer.specs.declared.Slot.{Slot}
 use Rattle.map_writer.specs.Given.{slotAt}
-use Rattle.map_writer.specs.Write.{valueOf}
 
--- a text with its 00, or the eight bytes of 4D, and how many they are
-unfoldable pub heldTold : List ℕ → Slot → Held
-heldTold text s = pick (eqb (s .mark) 1) (bytes (length (valueOf text s)) (valueOf text s)) nothing
+-- the part of the text that was given, and its 00
+unfoldable pub textTold : List ℕ → Slot → Held
+textTold text s = pick (eqb (s .mark) 1) (bytes (s .second + 1) (take (s .second) (drop (s .first) text) ++ (0 ∷ []))) nothing
+
+-- the eight bytes that were given
+unfoldable pub eightTold : List ℕ → Slot → Held
+eightTold text s = pick (eqb (s .mark) 1) (bytes 8 (take 8 (drop (s .first) text))) nothing
 
 -- the number as it was given
 unfoldable pub valueTold : Slot → Value
@@ -34,7 +37,7 @@ codeTold s =
 unfoldable pub materialTold : List ℕ → List ℕ → MaterialShown
 materialTold text ms =
     record {
-      name = heldTold text (slotAt ms 0 0x40);
+      name = textTold text (slotAt ms 0 0x40);
       first = valueTold (slotAt ms 3 0x41);
       last = valueTold (slotAt ms 6 0x42);
       markIn = valueTold (slotAt ms 9 0x43);
@@ -52,9 +55,9 @@ trackTold text ts at =
       lines = codeTold (slotAt ts (at + 17) 0x51);
       fields = codeTold (slotAt ts (at + 20) 0x52);
       version = valueTold (slotAt ts (at + 8) 0x4E);
-      name = heldTold text (slotAt ts (at + 2) 0x4C);
-      aux = heldTold text (slotAt ts (at + 5) 0x4D);
-      mpeg = heldTold text (slotAt ts (at + 11) 0x4F);
+      name = textTold text (slotAt ts (at + 2) 0x4C);
+      aux = eightTold text (slotAt ts (at + 5) 0x4D);
+      mpeg = textTold text (slotAt ts (at + 11) 0x4F);
     }
 
 -- n records, one after another

@@ -18,7 +18,7 @@ use Rattle.packet_writer.specs.declared.WriteAnswer.{WriteAnswer}
 use Rattle.map_writer.specs.Given.{slots, materialSlots, Given, tracksGiven}
 use Rattle.map_writer.specs.declared.Slot.{Slot}
 
--- what a tag's slot holds: 40, 4C and 4F a text and 4D eight bytes, both as place and length in the lent text; 41 to 45 and 4E a number; 50 to 52 a code
+-- what a tag's slot holds: 40, 4C and 4F a text and 4D eight bytes, both as a part of the lent text; 41 to 45 and 4E a number; 50 to 52 a code
 unfoldable pub isText : ℕ → Bool
 isText tag = has tag (0x40 ∷ 0x4C ∷ 0x4F ∷ [])
 
@@ -40,7 +40,7 @@ partOf text s = take (s .second) (drop (s .first) text)
 abbrev pub inside : List ℕ → Slot → Bool
 inside text s = leb (s .first + s .second) (length text)
 
--- whether a present slot holds what its field can hold: a text has up to 254 bytes, 4D eight, a number 32 bits
+-- whether a present slot holds what its field can hold: a text of up to 254 bytes and a 4D of eight, inside the lent text; a code that is none of the reserved; a number of 32 bits
 unfoldable pub fits : List ℕ → Slot → Bool
 fits text s =
     pick (isText (s .tag)) (pick (ltb 254 (s .second)) false (inside text s))
@@ -48,17 +48,17 @@ fits text s =
     (pick (isCode (s .tag)) (codeFits (s .tag) (s .first))
     (leb (s .first) 0xFFFFFFFF)))
 
--- whether a present slot's text is one, with its 00
+-- whether a present slot's text keeps the text rule once its 00 is added
 unfoldable pub reads : List ℕ → Slot → Bool
 reads text s = pick (isText (s .tag)) (textOk (partOf text s ++ (0 ∷ []))) true
 
--- a slot's fault, 0 for none: 24, then 11
+-- a slot's fault, 0 for none: 24, for a mark other than 0 and 1 too; then 11
 unfoldable pub slotFault : List ℕ → Slot → ℕ
 slotFault text s =
     pick (eqb (s .mark) 0) 0
     (pick (eqb (s .mark) 1) (pick (fits text s) (pick (reads text s) 0 11) 24) 24)
 
--- of two faults, the one that is named: 24 goes before 11, and 11 before 10
+-- of two faults, the one that is named: 24 goes before 11, and 11 before 10, which happens to be the order of the numbers, greatest first
 abbrev pub graver : ℕ → ℕ → ℕ
 graver a b = pick (ltb a b) b a
 
@@ -95,7 +95,7 @@ unfoldable pub idsFault : List ℕ → List Given → ℕ
 idsFault ids [] = 0
 idsFault ids (t ∷ ts) = graver (idFault ids (t .id)) (idsFault (t .id ∷ ids) ts)
 
--- the fault of the whole input: 24 for words that are no record of the material and no records of tracks
+-- the fault of the whole input: 24 for words that are not one record of the material, or not whole records of tracks; else the gravest of slots, tracks and IDs
 unfoldable pub faultOf : List ℕ → List ℕ → List ℕ → ℕ
 faultOf text ms ts =
     pick (eqb (length ms) 18)
@@ -137,7 +137,7 @@ materialLength p = length (bytesOf (p .material))
 abbrev pub tracksLength : MapParts → ℕ
 tracksLength p = length (tracks.bytesOf (map described (p .tracks)))
 
--- 25: a section over 65,535 bytes
+-- 25: a section over 65,535 bytes; no input without another fault has one (docs/DECISIONS.md, F22)
 abbrev pub tooLong : ℕ → ℕ → Bool
 tooLong m t = pick (ltb 65535 m) true (ltb 65535 t)
 

@@ -111,7 +111,7 @@ unfoldable pub typesSeen : List ℕ → List TrackShown → List ℕ
 typesSeen types [] = types
 typesSeen types (t ∷ ts) = typesSeen (set types (t .id) (t .kind)) ts
 
--- whatever the functions give on m is the one answer
+-- whatever the functions give on m is the one answer; that they give one, and not one for all maps, is shown on M and others in proofs/Bench.antt
 pub record Answers (m : List ℕ) (answer : Shown) : Type 0 where
   pub read : (x : MapAnswer) → ReadGives m x → mapSeen m x ≡ says (answer .count) (answer .material)
   pub track : (k : ℕ) (y : TrackAnswer) → TrackGives m k y → trackSeen m y ≡ kthSeen k (answer .tracks)

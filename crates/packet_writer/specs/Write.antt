@@ -17,15 +17,15 @@ headerOf kind len = beBytes 5 0x0000000001 ++ (kind ∷ []) ++ beBytes 4 len ++ 
 abbrev pub refused : ℕ → WriteAnswer
 refused n = Refused (refusal n 0)
 
--- 13 where the buffer has fewer bytes from the place on than the packet, a place beyond the buffer too; else the packet's length
+-- 13 where the buffer has fewer bytes from the place on than the packet, which has 16 at least, so at a place beyond the buffer too; else the packet's length
 abbrev pub ifRoom : List ℕ → ℕ → ℕ → WriteAnswer
 ifRoom out at len = pick (ltb (length out - at) len) (refused 13) (Length len)
 
--- bytes with others in the place of as many
+-- a buffer with some bytes written over what stood at a place, where there is room for them
 abbrev pub over : List ℕ → ℕ → List ℕ → List ℕ
 over out at bytes = take at out ++ bytes ++ drop (at + length bytes) out
 
--- a packet stands at its place if the answer is a length; a refused call changes nothing
+-- a packet's bytes stand at the place if the answer is a length, which is theirs; a refused call changes nothing
 abbrev pub after : List ℕ → ℕ → List ℕ → WriteAnswer → List ℕ
 after out at bytes (Length n) = over out at bytes
 after out at bytes (Refused r) = out
