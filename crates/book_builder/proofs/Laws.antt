@@ -1,5 +1,5 @@
 -- A walk over a stream's packets, one at a time: the entries so far and those of the packets left are all of them.
-use Prim.Native.Nat.{ℕ, zero, suc, _+_, _-_, _*_, _<_, _≤_}
+use Prim.Native.Nat.{ℕ, suc, _+_, _-_, _*_, _<_, _≤_}
 use mathlib.Core.Path.{_≡_, refl, _∙_, ap}
 use mathlib.Core.Bool.{Bool, true, false}
 use mathlib.Core.List.{List, [], _∷_, _++_, append-assoc, append-nil}
@@ -19,7 +19,8 @@ use Rattle.piece.specs.Piece.{pieceAt}
 use Rattle.piece.specs.declared.Piece.{Piece}
 use Rattle.piece.specs.declared.PieceAnswer.the-variants as piece
 use Rattle.piece.proofs.Laws.{told}
-use Rattle.stream.specs.Stream.{Packets, runsOut, closed, none, typesAfter, onPiece, packetsFrom, packets, checkOf}
+use Rattle.stream.specs.Stream.{Packets, closed, none, typesAfter, onPiece, packetsFrom, packets, checkOf}
+use Rattle.stream.proofs.Laws.{turn, out}
 use Rattle.stream.specs.declared.CheckAnswer.the-variants as check
 use Rattle.book.specs.Book.{recordBytes, bytesOf}
 use Rattle.book.specs.declared.Entry.{Entry}
@@ -37,17 +38,6 @@ pub record Left (s : List ℕ) (at : ℕ) (first : Bool) (done : List Entry) : T
 begin : (s : List ℕ) → Left s 0 true []
 unfolding entriesIn packets
 begin s = record { fuel = suc (length s); types = replicate 64 0; enough = omega arith; same = refl }
-
-turn : (s : List ℕ) (f : ℕ) (first : Bool) (types : List ℕ) (at : ℕ) → zero < f → at < length s
-    → packetsFrom s f first types at ≡ onPiece s at types (λ now-types next. packetsFrom s (f - 1) false now-types next) (pieceAt s at first)
-unfolding packetsFrom
-turn s zero first types at h l = absurd (omega arith)
-turn s (suc f) first types at h l = let e : suc f - 1 ≡ f = omega arith in rw (e, lt-ltb at (length s) l)
-
-out : (s : List ℕ) (f : ℕ) (first : Bool) (types : List ℕ) (at : ℕ) → length s ≤ at → packetsFrom s f first types at ≡ none runsOut
-unfolding packetsFrom
-out s zero first types at h = refl
-out s (suc f) first types at h = rw (le-ltb at (length s) h)
 
 module _ (s : List ℕ) (at : ℕ) (first : Bool) (done : List Entry) (l : Left s at first done) where
   pub all-out : length s ≤ at → entriesIn s ≡ done

@@ -40,13 +40,14 @@ pub begin : (s : List ℕ) (track field : ℕ) → Left s track field 0 started 
 unfolding runOf checkOf packets
 begin s track field = record { fuel = suc (length s); enough = omega arith; same = refl }
 
-turn : (s : List ℕ) (f : ℕ) (first : Bool) (types : List ℕ) (at : ℕ) → zero < f → at < length s
+-- the packets from an offset on: one and the rest, or none where the bytes run out
+pub turn : (s : List ℕ) (f : ℕ) (first : Bool) (types : List ℕ) (at : ℕ) → zero < f → at < length s
     → packetsFrom s f first types at ≡ onPiece s at types (λ now-types next. packetsFrom s (f - 1) false now-types next) (pieceAt s at first)
 unfolding packetsFrom
 turn s zero first types at h l = absurd (omega arith)
 turn s (suc f) first types at h l = let e : suc f - 1 ≡ f = omega arith in rw (e, lt-ltb at (length s) l)
 
-out : (s : List ℕ) (f : ℕ) (first : Bool) (types : List ℕ) (at : ℕ) → length s ≤ at → packetsFrom s f first types at ≡ none runsOut
+pub out : (s : List ℕ) (f : ℕ) (first : Bool) (types : List ℕ) (at : ℕ) → length s ≤ at → packetsFrom s f first types at ≡ none runsOut
 unfolding packetsFrom
 out s zero first types at h = refl
 out s (suc f) first types at h = rw (le-ltb at (length s) h)
