@@ -1,6 +1,6 @@
 //! Seek books, built and lent.
 
-use super::packets::{damage, refused, KNOWN_TYPES};
+use super::packets::{damage, edge_id, refused, KNOWN_TYPES};
 use super::streams::{damaged_bytes, good, question, Stream};
 use super::Made;
 use crate::request::{hex, lent_room, Request, BUILD, LOOKUP};
@@ -157,7 +157,7 @@ pub fn lookup_broken(rng: &mut Rng) -> Made {
         match rng.below(7) {
             0 => book[at] ^= 1 << rng.below(8),
             1 => book[at + 1] ^= 1 << rng.below(8),
-            2 => book[at + 2] = 64 + rng.below(192) as u8,
+            2 => book[at + 2] = edge_id(rng).max(64),
             3 => book[at + 3] = rng.pick(&[0, 1, 2, 5, 6, 19, 27, 0x8A, 255]),
             4 | 5 if i > 0 => {
                 // an offset that does not rise: the later record is at fault

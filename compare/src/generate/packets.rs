@@ -345,8 +345,14 @@ pub fn media_valid(rng: &mut Rng) -> Made {
     (Request::new(MEDIA, &[at], &[&lent]), Some(claim))
 }
 
+/// An ID byte around 63, or any.
+pub fn edge_id(rng: &mut Rng) -> u8 {
+    let any = rng.byte();
+    rng.pick(&[63, 64, 65, 127, 128, 0xC1, 255, any, any])
+}
+
 pub fn media_faults(rng: &mut Rng) -> Made {
-    let (kind, id) = (rng.byte(), rng.byte());
+    let (kind, id) = (rng.byte(), edge_id(rng));
     let (field, rest, flags) = (rng.edge32(), [rng.edge32(), rng.edge32()], rng.byte());
     let mut payload = media_payload(kind, id, field, rest, flags, &[]);
     let short = rng.chance(1, 3);

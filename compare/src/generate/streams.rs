@@ -2,7 +2,7 @@
 
 use super::maps::{self, Item, Model, Track};
 use super::packets::{
-    damage, flt_payload, media_payload, packet, refused, stir_reserved, KNOWN_TYPES,
+    damage, edge_id, flt_payload, media_payload, packet, refused, stir_reserved, KNOWN_TYPES,
 };
 use super::Made;
 use crate::request::{Request, CHECK, SEEK, WALK};
@@ -410,7 +410,7 @@ fn bad_content(rng: &mut Rng) -> (Piece, u8, u64) {
         // ID over 63, in a media packet of any type: the packet's own offset
         _ => {
             let kind = rng.byte();
-            let id = 64 + rng.below(192) as u8;
+            let id = edge_id(rng).max(64);
             (
                 piece(0xBF, &media_payload(kind, id, 0, [0, 0], 0, &[])),
                 12,

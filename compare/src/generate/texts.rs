@@ -251,7 +251,8 @@ fn malformed(rng: &mut Rng) -> Vec<u8> {
         return rng.pick(fixed).to_vec();
     }
     // a known identifier with a value of another form
-    let (identifier, _, _) = rng.pick(&ROWS);
+    let row = if rng.chance(1, 3) { 1 } else { rng.below(14) };
+    let identifier = ROWS[row].0;
     let both: &[&str] = &[
         "", " 1", "1 ", "-1", "+1", "1.", ".5", "0x1", "1e3", "a", "1\r", "1,0", "1..0", "1.2.3",
     ];
@@ -263,8 +264,10 @@ fn malformed(rng: &mut Rng) -> Vec<u8> {
         "9007199255",
         "9999999999",
         "0.0000000",
+        "00000000001",
+        "00000000000.5",
     ];
-    let more = if identifier == "Br" { rate } else { whole };
+    let more = if row == 1 { rate } else { whole };
     let value = if rng.chance(1, 2) {
         rng.pick(both)
     } else {
@@ -326,7 +329,9 @@ pub fn twice(rng: &mut Rng) -> Made {
 /// Br of any digits, many near 2^53 millionths.
 pub fn rate(rng: &mut Rng) -> Made {
     let mut lines = lines(rng);
-    let n: u64 = match rng.below(4) {
+    let n: u64 = match rng.below(5) {
+        // where whole and part divided apart would be rounded twice
+        4 => 1_000_000 + rng.next() % 16_000_000,
         0 => (1u64 << 53) - 3 + rng.below(7) as u64,
         1 => rng.next() % (1 << 53),
         2 => rng.next() % 10_000_000_000_000_000,
@@ -340,7 +345,11 @@ pub fn rate(rng: &mut Rng) -> Made {
     let mut said = whole * 1_000_000;
     if rng.chance(4, 5) {
         let digits = format!("{rest:06}");
-        let keep = 1 + rng.below(6);
+        let keep = if rng.chance(1, 2) {
+            6
+        } else {
+            1 + rng.below(6)
+        };
         said += digits[..keep].parse::<u64>().unwrap() * 10u64.pow(6 - keep as u32);
         value = format!("{value}.{}", &digits[..keep]);
     }

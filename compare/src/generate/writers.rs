@@ -56,25 +56,31 @@ pub fn flt_valid(rng: &mut Rng) -> Made {
     (ask_flt(at, room, u64::from(step), &wide), claim)
 }
 
-/// Step, offsets and count at every edge; 24 also with a room too small.
+/// Step, offsets and count at every edge, mostly one at a time; 24 also with a room too small.
 pub fn flt_edges(rng: &mut Rng) -> Made {
-    let n = match rng.below(12) {
-        0 => 1_001,
-        1 => 1_002 + rng.below(200),
-        2 => 1_000,
+    let which = rng.below(4);
+    let n = match rng.below(4) {
+        0 if which == 0 => 1_002 + rng.below(200),
+        1 if which == 0 => 1_000,
+        _ if which == 0 => 1_001,
         _ => rng.below(4),
     };
-    let wide = rng.chance(1, 2);
-    let offsets: Vec<u64> = (0..n)
-        .map(|_| {
-            if wide && rng.chance(1, 3) {
-                rng.edge()
-            } else {
-                u64::from(rng.edge32())
-            }
-        })
-        .collect();
-    let step = rng.edge();
+    let mut offsets: Vec<u64> = (0..n).map(|_| u64::from(rng.edge32())).collect();
+    if which & 1 != 0 {
+        offsets.push(rng.edge());
+        let at = rng.below(offsets.len());
+        offsets[at] = if rng.chance(1, 3) {
+            1 << 32
+        } else {
+            rng.edge()
+        };
+    }
+    let step = if which & 2 != 0 {
+        rng.edge()
+    } else {
+        u64::from(rng.edge32().max(1))
+    };
+    let n = offsets.len();
     let (at, room, _) = room_for(rng, 24 + 4 * n);
     let barred = step == 0 || step >> 32 != 0 || n > 1_000 || offsets.iter().any(|o| o >> 32 != 0);
     let claim = if barred { unwritten(24, room) } else { None };
@@ -340,13 +346,15 @@ fn bar(rng: &mut Rng, input: &mut Input) {
         3 => {
             let known: Vec<u64> = KNOWN_TYPES.iter().map(|kind| u64::from(*kind)).collect();
             let kind = match rng.below(3) {
-                0 => rng.pick(&[0, 2, 5, 6, 19, 27, 127, 128 + 10, 256 + 10, (1 << 32) + 10]),
+                0 => rng.pick(&[0, 2, 5, 6, 19, 27, 127]),
+                1 => rng.pick(&known) + rng.pick(&[128, 256, 65_536, 1 << 32, 1 << 63]),
                 _ => off(rng, &known),
             };
             some_track(input).0 = kind;
         }
         4 => {
-            some_track(input).1 = rng.pick(&[64, 65, 0xC1, 255, 256, 1 << 32, 1 << 63, u64::MAX]);
+            some_track(input).1 =
+                rng.pick(&[64, 64, 65, 0xC1, 255, 256, 1 << 32, 1 << 63, u64::MAX]);
         }
         // a mark that is neither
         5 => {
