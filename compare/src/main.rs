@@ -2,7 +2,8 @@
 
 use compare::generate::{case, Case};
 use compare::own;
-use compare::request::{answer, hex, Request, MOST_BYTES, SHAPES};
+use compare::reference::listing::listing;
+use compare::request::{answer, hex, Request, CHECK, MOST_BYTES, SHAPES};
 use std::collections::BTreeMap;
 use std::fs::File;
 use std::io::{self, BufRead, BufReader, BufWriter, Read, Write};
@@ -12,6 +13,7 @@ use std::thread;
 const USAGE: &str = "\
 compare --cases N --seed S --probe PATH [--probe-arg A]... [--batch B]
 compare --cases N --seed S --requests FILE --expected FILE
+compare --listing PATH [--probe-arg A]... [--cases N] [--seed S]
 compare --self [--cases N] [--seed S]
 compare --show I --seed S";
 
@@ -20,6 +22,7 @@ struct Options {
     seed: u64,
     batch: u64,
     probe: Option<String>,
+    listing: Option<String>,
     probe_args: Vec<String>,
     requests: Option<String>,
     expected: Option<String>,
@@ -33,6 +36,7 @@ fn options() -> Result<Options, String> {
         seed: 1,
         batch: 10_000,
         probe: None,
+        listing: None,
         probe_args: Vec::new(),
         requests: None,
         expected: None,
@@ -51,6 +55,7 @@ fn options() -> Result<Options, String> {
             "--seed" => o.seed = number(value()?)?,
             "--batch" => o.batch = number(value()?)?.max(1),
             "--probe" => o.probe = Some(value()?),
+            "--listing" => o.listing = Some(value()?),
             "--probe-arg" => o.probe_args.push(value()?),
             "--requests" => o.requests = Some(value()?),
             "--expected" => o.expected = Some(value()?),
@@ -149,9 +154,8 @@ fn made(seed: u64, index: u64) -> (Case, String) {
     (case, line)
 }
 
-/// Runs the probe on some input and gives its lines; a thread feeds it, so that neither side waits for the other.
-fn ask(o: &Options, input: Vec<u8>) -> io::Result<Vec<String>> {
-    let path = o.probe.as_ref().expect("asked only with a probe");
+/// Runs a program on some input and gives its lines; a thread feeds it, so that neither side waits for the other.
+fn ask(o: &Options, path: &str, input: Vec<u8>) -> io::Result<Vec<String>> {
     let mut child = Command::new(path)
         .args(&o.probe_args)
         .stdin(Stdio::piped())
@@ -242,7 +246,7 @@ fn malformed_runs() -> Vec<(&'static str, Vec<u8>)> {
         .collect()
 }
 
-fn compare(o: &Options) -> io::Result<bool> {
+fn compare(o: &Options, probe: &str) -> io::Result<bool> {
     let mut table = Table::default();
     let mut differences = 0;
     let mut from = 0;
@@ -256,7 +260,7 @@ fn compare(o: &Options) -> io::Result<bool> {
             table.count(case.kind, &line);
             wanted.push(line + "\n");
         }
-        let lines = ask(o, input)?;
+        let lines = ask(o, probe, input)?;
         for (i, want) in wanted.iter().enumerate() {
             if lines.get(i) != Some(want) {
                 differences += 1;
@@ -275,7 +279,7 @@ fn compare(o: &Options) -> io::Result<bool> {
     }
     let runs = malformed_runs();
     for (what, input) in &runs {
-        let lines = ask(o, input.clone())?;
+        let lines = ask(o, probe, input.clone())?;
         if lines != ["refused 2 0\n", "malformed\n"] {
             differences += 1;
             println!("difference: {what}: request {} gave {lines:?}", hex(input));
@@ -287,6 +291,35 @@ fn compare(o: &Options) -> io::Result<bool> {
         "cases: {}, seed: {}, differences: {differences}",
         o.cases, o.seed
     );
+    Ok(differences == 0)
+}
+
+/// The listing program on the streams of the cases that ask for a check, and on inputs at its limit; one run each.
+fn compare_listing(o: &Options, path: &str) -> io::Result<bool> {
+    let mut inputs: Vec<Vec<u8>> = vec![vec![], vec![0; 65_536], vec![0; 65_537], vec![0; 70_000]];
+    let cases = (0..).map(|index| case(o.seed, index).request);
+    let streams = cases.filter(|request| request.function == CHECK);
+    inputs.extend(
+        streams
+            .take(o.cases as usize)
+            .map(|request| request.strings[0].clone()),
+    );
+    let mut accepted = 0;
+    let mut differences = 0;
+    for input in &inputs {
+        let want = listing(input);
+        accepted += u64::from(!want.starts_with("refused"));
+        let got = ask(o, path, input.clone())?.concat();
+        if got != want {
+            differences += 1;
+            if differences <= 5 {
+                println!("difference: input {}", hex(input));
+                println!("  expected {want:?}\n  listing  {got:?}");
+            }
+        }
+    }
+    let n = inputs.len();
+    println!("listings: {n}, accepted: {accepted}, differences: {differences}");
     Ok(differences == 0)
 }
 
@@ -334,8 +367,11 @@ fn run(o: &Options) -> io::Result<bool> {
     if o.own {
         return Ok(own_check(o));
     }
+    if let Some(path) = &o.listing {
+        return compare_listing(o, path);
+    }
     match (&o.probe, &o.requests, &o.expected) {
-        (Some(_), None, None) => compare(o),
+        (Some(probe), None, None) => compare(o, probe),
         (None, Some(requests), Some(expected)) => to_files(o, requests, expected).map(|()| true),
         _ => {
             eprintln!("{USAGE}");

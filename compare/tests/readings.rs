@@ -4,6 +4,7 @@ use compare::generate::books::record;
 use compare::generate::maps::M;
 use compare::generate::packets::{flt_payload, media_payload, packet, state_length};
 use compare::reference::header::{header, packet as packet_of, Header};
+use compare::reference::listing::listing;
 use compare::reference::map::{fill, map, Map, Part, Track};
 use compare::reference::mpeg::{parameters, Value};
 use compare::reference::name::{name, name_of_two, Of};
@@ -227,6 +228,8 @@ fn bench_listing() {
         .map(|piece| (piece.offset, piece.kind, piece.length))
         .collect();
     assert_eq!(lines, [(0, 0xBC, 44), (44, 0xFD, 16), (60, 0xFB, 16)]);
+    let want = "0 map 44\n44 umf 16\n60 eos 16\nok 3\n";
+    assert_eq!(listing(&bytes), want);
 }
 
 // ---- "Ways it has been got wrong" ----
@@ -951,6 +954,28 @@ fn flt_writer() {
         write::write_flt(&mut large, 0, 1, &[u64::from(u32::MAX); 1_000]),
         Ok(4_024)
     );
+}
+
+#[test]
+fn d40_listing() {
+    assert_eq!(listing(&[]), "refused 17 0\n");
+    assert_eq!(listing(&[0; 65_537]), "refused 13 0\n");
+    assert_eq!(listing(&[0; 65_536]), "refused 2 0\n");
+    let parts = [
+        M.to_vec(),
+        flt(),
+        of_type(19, 50, 0),
+        packet(0x00, &[]),
+        umf(),
+        eos(),
+    ];
+    let want = "0 map 44\n44 flt 24\n68 media 32\n100 other 16\n116 umf 16\n132 eos 16\nok 6\n";
+    assert_eq!(listing(&parts.concat()), want);
+    // a stream of just 65,536 bytes is read
+    let left = 65_536 - M.len() - 32;
+    let whole = [M.to_vec(), packet(0xFE, &vec![0; left - 16]), umf(), eos()].concat();
+    assert_eq!(whole.len(), 65_536);
+    assert!(listing(&whole).ends_with("ok 4\n"));
 }
 
 // ---- further readings ----

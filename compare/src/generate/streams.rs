@@ -670,9 +670,14 @@ fn walk(bytes: &[u8], n: u64, claim: Option<String>) -> Made {
     (Request::new(WALK, &[n], &[bytes]), claim)
 }
 
-/// A walker over any packets, EOS no end, and past the last byte.
+/// A walker over any packets, EOS no end, bad content no fault, and past the last byte.
 pub fn walk_stream(rng: &mut Rng) -> Made {
     let mut stream = good(rng);
+    for _ in 0..rng.below(3) {
+        let bad = bad_content(rng).0;
+        let at = rng.below(stream.pieces.len() + 1);
+        stream.pieces.insert(at, bad);
+    }
     if rng.chance(1, 3) {
         stream.pieces.extend(good(rng).pieces);
     }

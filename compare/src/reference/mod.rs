@@ -2,6 +2,7 @@
 
 pub mod book;
 pub mod header;
+pub mod listing;
 pub mod locator;
 pub mod map;
 pub mod media;
