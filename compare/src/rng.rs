@@ -31,11 +31,11 @@ pub const EDGES: [u64; 22] = [
 impl Rng {
     pub fn new(seed: u64, index: u64) -> Self {
         let mut rng = Rng(seed ^ index.wrapping_mul(0xD6E8_FEB8_6659_FD93));
-        rng.next();
+        rng.draw();
         rng
     }
 
-    pub fn next(&mut self) -> u64 {
+    pub fn draw(&mut self) -> u64 {
         self.0 = self.0.wrapping_add(0x9E37_79B9_7F4A_7C15);
         let mut z = self.0;
         z = (z ^ (z >> 30)).wrapping_mul(0xBF58_476D_1CE4_E5B9);
@@ -45,7 +45,7 @@ impl Rng {
 
     /// A number under `n`, which is not 0.
     pub fn below(&mut self, n: usize) -> usize {
-        (self.next() % n as u64) as usize
+        (self.draw() % n as u64) as usize
     }
 
     /// True about `part` times in `whole`.
@@ -58,7 +58,7 @@ impl Rng {
     }
 
     pub fn byte(&mut self) -> u8 {
-        self.next() as u8
+        self.draw() as u8
     }
 
     pub fn bytes(&mut self, n: usize) -> Vec<u8> {
@@ -68,7 +68,7 @@ impl Rng {
     /// A 64-bit number, mostly at an edge.
     pub fn edge(&mut self) -> u64 {
         match self.below(4) {
-            0 => self.next() >> self.below(64),
+            0 => self.draw() >> self.below(64),
             1 => self
                 .pick(&EDGES)
                 .wrapping_add(self.below(5) as u64)

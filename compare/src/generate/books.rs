@@ -165,7 +165,7 @@ pub fn lookup_broken(rng: &mut Rng) -> Made {
                 let wrong = if rng.chance(1, 2) {
                     before
                 } else {
-                    before - (before & rng.next())
+                    before - (before & rng.draw())
                 };
                 book[at + 8..at + 16].copy_from_slice(&wrong.to_le_bytes());
             }

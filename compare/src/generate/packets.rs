@@ -227,7 +227,7 @@ fn distance(rng: &mut Rng, step: u32, count: u64) -> u64 {
         0 => rng.edge(),
         1 => (rng.below(count as usize + 2) as u64 * step).wrapping_sub(rng.below(2) as u64),
         2 => (count * step).wrapping_sub(1),
-        _ => rng.below(count as usize + 1) as u64 * step + rng.next() % step,
+        _ => rng.below(count as usize + 1) as u64 * step + rng.draw() % step,
     }
 }
 

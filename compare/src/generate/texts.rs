@@ -331,11 +331,11 @@ pub fn rate(rng: &mut Rng) -> Made {
     let mut lines = lines(rng);
     let n: u64 = match rng.below(5) {
         // where whole and part divided apart would be rounded twice
-        4 => 1_000_000 + rng.next() % 16_000_000,
+        4 => 1_000_000 + rng.draw() % 16_000_000,
         0 => (1u64 << 53) - 3 + rng.below(7) as u64,
-        1 => rng.next() % (1 << 53),
-        2 => rng.next() % 10_000_000_000_000_000,
-        _ => rng.next() % (1 << rng.below(54)),
+        1 => rng.draw() % (1 << 53),
+        2 => rng.draw() % 10_000_000_000_000_000,
+        _ => rng.draw() % (1 << rng.below(54)),
     };
     let (whole, rest) = (n / 1_000_000, n % 1_000_000);
     let mut value = match rng.below(3) {
