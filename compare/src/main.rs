@@ -17,6 +17,9 @@ compare --listing PATH [--probe-arg A]... [--cases N] [--seed S]
 compare --self [--cases N] [--seed S]
 compare --show I --seed S";
 
+/// So many differences are shown.
+const SHOWN: u64 = 5;
+
 struct Options {
     cases: u64,
     seed: u64,
@@ -73,6 +76,7 @@ struct Row {
     cases: u64,
     accepted: u64,
     refused: BTreeMap<u8, u64>,
+    differences: u64,
 }
 
 #[derive(Default)]
@@ -93,6 +97,10 @@ impl Table {
             None => row.accepted += 1,
             Some(number) => *row.refused.entry(number).or_default() += 1,
         }
+    }
+
+    fn differs(&mut self, kind: &str) {
+        self.0.entry(kind.to_string()).or_default().differences += 1;
     }
 
     fn print(&self) {
@@ -124,11 +132,14 @@ impl Table {
     }
 
     fn line(kind: &str, row: &Row) {
-        let refused: Vec<String> = row
+        let mut refused: Vec<String> = row
             .refused
             .iter()
             .map(|(n, c)| format!("{n}:{c}"))
             .collect();
+        if row.differences > 0 {
+            refused.push(format!("({} differ)", row.differences));
+        }
         println!(
             "{kind:<28} {:>7} {:>9}  {}",
             row.cases,
@@ -200,7 +211,12 @@ fn show_difference(kind: &str, index: u64, request: &Request, want: &str, got: O
         .take_while(|(a, b)| a == b)
         .count();
     println!("difference: {kind}, case {index}");
-    println!("  request  {}", hex(&request.encode()));
+    let bytes = request.encode();
+    if bytes.len() <= 2_000 {
+        println!("  request  {}", hex(&bytes));
+    } else {
+        println!("  request  {}.. (--show {index})", hex(&bytes[..2_000]));
+    }
     println!("  expected {}", around(want, same));
     println!("  probe    {}", around(got, same));
 }
@@ -264,9 +280,10 @@ fn compare(o: &Options, probe: &str) -> io::Result<bool> {
         for (i, want) in wanted.iter().enumerate() {
             if lines.get(i) != Some(want) {
                 differences += 1;
-                if differences <= 5 {
-                    let index = from + i as u64;
-                    let case = case(o.seed, index);
+                let index = from + i as u64;
+                let case = case(o.seed, index);
+                table.differs(case.kind);
+                if differences <= SHOWN {
                     show_difference(case.kind, index, &case.request, want, lines.get(i));
                 }
             }
@@ -278,15 +295,22 @@ fn compare(o: &Options, probe: &str) -> io::Result<bool> {
         from = to;
     }
     let runs = malformed_runs();
+    let mut wrong = 0;
     for (what, input) in &runs {
         let lines = ask(o, probe, input.clone())?;
         if lines != ["refused 2 0\n", "malformed\n"] {
             differences += 1;
-            println!("difference: {what}: request {} gave {lines:?}", hex(input));
+            wrong += 1;
+            if wrong <= SHOWN {
+                println!("difference: {what}: {} gave {lines:?}", hex(input));
+            }
         }
     }
     table.print();
-    println!("runs with a malformed request: {}", runs.len());
+    println!(
+        "runs with a malformed request: {}, {wrong} differ",
+        runs.len()
+    );
     println!(
         "cases: {}, seed: {}, differences: {differences}",
         o.cases, o.seed
@@ -312,7 +336,7 @@ fn compare_listing(o: &Options, path: &str) -> io::Result<bool> {
         let got = ask(o, path, input.clone())?.concat();
         if got != want {
             differences += 1;
-            if differences <= 5 {
+            if differences <= SHOWN {
                 println!("difference: input {}", hex(input));
                 println!("  expected {want:?}\n  listing  {got:?}");
             }
