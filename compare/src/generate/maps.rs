@@ -359,7 +359,7 @@ fn track(rng: &mut Rng, id: u8, newer: bool) -> Track {
     };
     Track {
         type_byte: 0x80 + kind,
-        id_byte: 0xC0 + id,
+        id_byte: id.wrapping_add(0xC0),
         items: track_items(rng, newer),
         overhang: 0,
     }
