@@ -1,11 +1,6 @@
 use Rattle.probe.proofs.main.Statement.{statement}
 use Rattle.probe.proofs.main.Tie as tie
-use Rattle.probe.proofs.main.Reads as reads
-use Rattle.probe.proofs.main.Lts as lts
-use Rattle.probe.proofs.serve.Reads as serve-reads
 use borrow.Author.Needs.{needs}
-use native.Mathlib.Omega.{arith}
-use Prim.Native.Nat.{_≤_, _-_}
 use mathlib.Core.Path.{_≡_}
 use lib.ListN.{length}
 

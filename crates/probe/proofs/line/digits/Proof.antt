@@ -1,11 +1,6 @@
 use Rattle.probe.proofs.line.digits.Statement.{statement}
 use Rattle.probe.proofs.line.digits.Tie as tie
-use Rattle.probe.proofs.line.digits.Reads as reads
-use Rattle.probe.proofs.line.digits.Lts as lts
-use Rattle.probe.proofs.line.digit.Reads as digit-reads
-use Rattle.probe.proofs.line.put.Reads as put-reads
 use borrow.Author.Needs.{needs}
-use native.Mathlib.Omega.{arith}
 use Prim.Native.Nat.{_≤_, _-_}
 use mathlib.Core.Path.{_≡_}
 use lib.ListN.{length}

@@ -1,10 +1,6 @@
 use Rattle.probe.proofs.line.say.Statement.{statement}
 use Rattle.probe.proofs.line.say.Tie as tie
-use Rattle.probe.proofs.line.say.Reads as reads
-use Rattle.probe.proofs.line.say.Lts as lts
-use Rattle.probe.proofs.line.put.Reads as put-reads
 use borrow.Author.Needs.{needs}
-use native.Mathlib.Omega.{arith}
 use Prim.Native.Nat.{_≤_, _-_}
 use mathlib.Core.Path.{_≡_}
 use lib.ListN.{length}

@@ -1,13 +1,6 @@
 use Rattle.probe.proofs.read.walk.Statement.{statement}
 use Rattle.probe.proofs.read.walk.Tie as tie
-use Rattle.probe.proofs.read.walk.Reads as reads
-use Rattle.probe.proofs.read.walk.Lts as lts
-use Rattle.probe.proofs.line.say.Reads as say-reads
-use Rattle.probe.proofs.read.same_place.Reads as same-place-reads
-use Rattle.probe.proofs.read.step_words.Reads as step-words-reads
-use Rattle.walker.proofs.walk.Reads as walk-reads
 use borrow.Author.Needs.{needs}
-use native.Mathlib.Omega.{arith}
 use Prim.Native.Nat.{_≤_, _-_}
 use mathlib.Core.Path.{_≡_}
 use lib.ListN.{length}

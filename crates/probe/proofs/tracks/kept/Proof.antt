@@ -1,10 +1,6 @@
 use Rattle.probe.proofs.tracks.kept.Statement.{statement}
 use Rattle.probe.proofs.tracks.kept.Tie as tie
-use Rattle.probe.proofs.tracks.kept.Reads as reads
-use Rattle.probe.proofs.tracks.kept.Lts as lts
-use Rattle.probe.proofs.tracks.keep.Reads as keep-reads
 use borrow.Author.Needs.{needs}
-use native.Mathlib.Omega.{arith}
 use Prim.Native.Nat.{_≤_, _-_}
 use mathlib.Core.Path.{_≡_}
 use lib.ListN.{length}

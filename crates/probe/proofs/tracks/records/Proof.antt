@@ -1,10 +1,6 @@
 use Rattle.probe.proofs.tracks.records.Statement.{statement}
 use Rattle.probe.proofs.tracks.records.Tie as tie
-use Rattle.probe.proofs.tracks.records.Reads as reads
-use Rattle.probe.proofs.tracks.records.Lts as lts
-use Rattle.probe.proofs.tracks.kth.Reads as kth-reads
 use borrow.Author.Needs.{needs}
-use native.Mathlib.Omega.{arith}
 use Prim.Native.Nat.{_≤_, _-_}
 use mathlib.Core.Path.{_≡_}
 use lib.ListN.{length}

@@ -1,10 +1,7 @@
 use Rattle.probe.proofs.write.prefill.Statement.{statement}
 use Rattle.probe.proofs.write.prefill.Tie as tie
-use Rattle.probe.proofs.write.prefill.Reads as reads
-use Rattle.probe.proofs.write.prefill.Lts as lts
 use borrow.Author.Needs.{needs}
-use native.Mathlib.Omega.{arith}
-use Prim.Native.Nat.{_≤_, _-_}
+use Prim.Native.Nat.{_-_}
 use mathlib.Core.Path.{_≡_}
 use lib.ListN.{length}
 

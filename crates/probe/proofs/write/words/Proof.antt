@@ -1,11 +1,6 @@
 use Rattle.probe.proofs.write.words.Statement.{statement}
 use Rattle.probe.proofs.write.words.Tie as tie
-use Rattle.probe.proofs.write.words.Reads as reads
-use Rattle.probe.proofs.write.words.Lts as lts
-use Rattle.number.proofs.le_at.Reads as le-at-reads
-use Rattle.probe.proofs.write.least.Reads as least-reads
 use borrow.Author.Needs.{needs}
-use native.Mathlib.Omega.{arith}
 use Prim.Native.Nat.{_≤_, _-_, _*_}
 use mathlib.Core.Path.{_≡_}
 use lib.ListN.{length}
