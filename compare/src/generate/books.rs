@@ -1,0 +1,205 @@
+//! Seek books, built and lent.
+
+use super::packets::{damage, edge_id, refused, KNOWN_TYPES};
+use super::streams::{damaged_bytes, good, question, Stream};
+use super::Made;
+use crate::request::{hex, lent_room, Request, BUILD, LOOKUP};
+use crate::rng::Rng;
+
+pub fn record(id: u8, kind: u8, field: u32, offset: u64) -> Vec<u8> {
+    let mut bytes = vec![0x47, 0x58, id, kind];
+    bytes.extend(field.to_le_bytes());
+    bytes.extend(offset.to_le_bytes());
+    bytes
+}
+
+/// The book of a good stream, told from its pieces.
+pub fn book_of(stream: &Stream) -> Vec<u8> {
+    let mut book = Vec::new();
+    for (i, piece) in stream.pieces.iter().enumerate() {
+        if let Some((id, field)) = piece.carries {
+            book.extend(record(id, piece.media_type, field, stream.offset(i)));
+        }
+    }
+    book
+}
+
+/// Rooms at, under and over the size, and zero.
+pub fn build(rng: &mut Rng) -> Made {
+    let stream = good(rng);
+    let book = book_of(&stream);
+    let room = match rng.below(6) {
+        0 => 0,
+        1 => book.len().saturating_sub(1),
+        2 => book.len() + 1 + rng.below(20),
+        3 => rng.below(book.len() + 1),
+        _ => book.len(),
+    };
+    let mut lent = lent_room(room as u64);
+    let claim = if room < book.len() {
+        format!("refused 13 0 {}", hex(&lent))
+    } else {
+        lent[..book.len()].copy_from_slice(&book);
+        format!("records {} {}", book.len() / 16, hex(&lent))
+    };
+    (
+        Request::new(BUILD, &[room as u64], &[&stream.bytes()]),
+        Some(claim),
+    )
+}
+
+pub fn build_damage(rng: &mut Rng) -> Made {
+    let bytes = damaged_bytes(rng);
+    let room = rng.below(200) as u64;
+    (Request::new(BUILD, &[room], &[&bytes]), None)
+}
+
+struct Entry {
+    id: u8,
+    kind: u8,
+    field: u32,
+    offset: u64,
+}
+
+/// A good book that no stream needs to have.
+fn entries(rng: &mut Rng) -> Vec<Entry> {
+    let n = if rng.chance(1, 60) {
+        rng.below(400)
+    } else {
+        rng.below(6)
+    };
+    let mut offset = rng.pick(&[0, 0, 44, 1 << 31, (1 << 32) - 8, 1 << 62, (1 << 63) - 4]);
+    let mut list = Vec::new();
+    for _ in 0..n {
+        list.push(Entry {
+            id: rng.pick(&[0, 1, 2, 62, 63]),
+            kind: rng.pick(&KNOWN_TYPES),
+            field: if rng.chance(1, 8) {
+                rng.edge32()
+            } else {
+                rng.below(4) as u32
+            },
+            offset,
+        });
+        offset += 1 + rng.pick(&[0, 1, 255, 256, 65_536, 1 << 32]);
+    }
+    if rng.chance(1, 30) {
+        list.push(Entry {
+            id: 5,
+            kind: 10,
+            field: 5,
+            offset: u64::MAX,
+        });
+    }
+    list
+}
+
+fn bytes(list: &[Entry]) -> Vec<u8> {
+    list.iter()
+        .flat_map(|e| record(e.id, e.kind, e.field, e.offset))
+        .collect()
+}
+
+fn lookup(rng: &mut Rng, near: bool) -> Made {
+    let list = entries(rng);
+    let (mut track, mut field) = (rng.below(65) as u64, rng.edge());
+    if !list.is_empty() {
+        let asked = &list[rng.below(list.len())];
+        (track, field) = (u64::from(asked.id), u64::from(asked.field));
+    }
+    if near {
+        match rng.below(5) {
+            0 => track += rng.pick(&[64, 192, 256, 1 << 32, 1 << 63]),
+            1 => field = field.wrapping_add(1 << 32),
+            2 => field = field.wrapping_add(1),
+            3 => track = rng.edge(),
+            _ => field = rng.edge(),
+        }
+    }
+    let found = list
+        .iter()
+        .find(|e| u64::from(e.id) == track && u64::from(e.field) == field);
+    let claim = match found {
+        Some(entry) => Some(format!("at {}", entry.offset)),
+        None => refused(16, 0),
+    };
+    (
+        Request::new(LOOKUP, &[track, field], &[&bytes(&list)]),
+        claim,
+    )
+}
+
+pub fn lookup_found(rng: &mut Rng) -> Made {
+    lookup(rng, false)
+}
+
+pub fn lookup_asked(rng: &mut Rng) -> Made {
+    lookup(rng, true)
+}
+
+/// Faults in a good book; the lowest record number counts.
+pub fn lookup_broken(rng: &mut Rng) -> Made {
+    let mut list = entries(rng);
+    list.push(Entry {
+        id: 9,
+        kind: 9,
+        field: 9,
+        offset: u64::MAX,
+    });
+    if list.len() > 1 && list[list.len() - 2].offset == u64::MAX {
+        list.pop();
+    }
+    let mut book = bytes(&list);
+    let mut lowest = usize::MAX;
+    for _ in 0..1 + rng.below(2) {
+        let i = rng.below(list.len());
+        let at = 16 * i;
+        match rng.below(7) {
+            0 => book[at] ^= 1 << rng.below(8),
+            1 => book[at + 1] ^= 1 << rng.below(8),
+            2 => book[at + 2] = edge_id(rng).max(64),
+            3 => book[at + 3] = rng.pick(&[0, 1, 2, 5, 6, 19, 27, 0x8A, 255]),
+            4 | 5 if i > 0 => {
+                // an offset that does not rise: the later record is at fault
+                let before = list[i - 1].offset;
+                let wrong = if rng.chance(1, 2) {
+                    before
+                } else {
+                    before - (before & rng.draw())
+                };
+                book[at + 8..at + 16].copy_from_slice(&wrong.to_le_bytes());
+            }
+            _ => {
+                let n = 1 + rng.below(15);
+                let tail = book.len() / 16;
+                book.truncate(16 * tail);
+                let more = rng.pick(&[0x47, 0x58, 0x00]);
+                book.extend(vec![more; n]);
+                lowest = lowest.min(tail);
+                continue;
+            }
+        }
+        lowest = lowest.min(i);
+    }
+    // a mark struck twice may be good again: no claim then
+    let again = book[..16 * list.len()] == bytes(&list)[..] && book.len() == 16 * list.len();
+    let twice = list.len() > lowest
+        && book[16 * lowest..16 * lowest + 16] == bytes(&list)[16 * lowest..16 * lowest + 16];
+    let claim = if again || twice {
+        None
+    } else {
+        refused(23, lowest as u64)
+    };
+    let (track, field) = (u64::from(list[0].id), u64::from(list[0].field));
+    (Request::new(LOOKUP, &[track, field], &[&book]), claim)
+}
+
+pub fn lookup_damage(rng: &mut Rng) -> Made {
+    let stream = good(rng);
+    let (track, field) = question(rng, &stream, false);
+    let mut book = book_of(&stream);
+    for _ in 0..rng.below(3) {
+        damage(rng, &mut book);
+    }
+    (Request::new(LOOKUP, &[track, field], &[&book]), None)
+}

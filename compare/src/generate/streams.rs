@@ -1,0 +1,707 @@
+//! Streams: packets in any order, with the faults of the stream rules and their places.
+
+use super::maps::{self, Item, Model, Track};
+use super::packets::{
+    damage, edge_id, flt_payload, media_payload, packet, refused, stir_reserved, KNOWN_TYPES,
+};
+use super::Made;
+use crate::request::{Request, CHECK, SEEK, WALK};
+use crate::rng::Rng;
+
+/// A packet of a stream, as its bytes and what it is.
+#[derive(Clone)]
+pub struct Piece {
+    pub kind: u8,
+    pub bytes: Vec<u8>,
+    /// ID and field number, if this is a media packet of known type.
+    pub carries: Option<(u8, u32)>,
+    /// The type of such a packet.
+    pub media_type: u8,
+}
+
+#[derive(Clone)]
+pub struct Stream {
+    pub pieces: Vec<Piece>,
+    /// ID and type of the tracks of the first map.
+    pub tracks: Vec<(u8, u8)>,
+}
+
+impl Stream {
+    pub fn bytes(&self) -> Vec<u8> {
+        self.pieces
+            .iter()
+            .flat_map(|piece| piece.bytes.clone())
+            .collect()
+    }
+
+    pub fn offset(&self, i: usize) -> u64 {
+        self.pieces[..i]
+            .iter()
+            .map(|piece| piece.bytes.len() as u64)
+            .sum()
+    }
+
+    pub fn length(&self) -> u64 {
+        self.offset(self.pieces.len())
+    }
+
+    fn eos(&self) -> usize {
+        self.pieces.len() - 1
+    }
+
+    fn ok(&self) -> Option<String> {
+        Some(format!("ok {}", self.pieces.len()))
+    }
+}
+
+fn piece(kind: u8, payload: &[u8]) -> Piece {
+    Piece {
+        kind,
+        bytes: packet(kind, payload),
+        carries: None,
+        media_type: 0,
+    }
+}
+
+fn media(kind: u8, id: u8, field: u32, rng: &mut Rng) -> Piece {
+    let n = rng.below(3) * 4;
+    let data = rng.bytes(n);
+    let time_line = if rng.chance(1, 2) {
+        field
+    } else {
+        field.wrapping_add(1)
+    };
+    let rest = [rng.edge32(), time_line];
+    let mut made = piece(
+        0xBF,
+        &media_payload(kind, id, field, rest, rng.byte(), &data),
+    );
+    if KNOWN_TYPES.contains(&kind) {
+        made.carries = Some((id, field));
+        made.media_type = kind;
+    }
+    made
+}
+
+fn flt(rng: &mut Rng) -> Piece {
+    let stored: Vec<u32> = (0..rng.below(4)).map(|_| rng.edge32()).collect();
+    let step = 1 + rng.below(50) as u32;
+    piece(0xFC, &flt_payload(step, stored.len() as u32, &stored))
+}
+
+fn umf(rng: &mut Rng) -> Piece {
+    let n = rng.below(4) * 4;
+    piece(0xFD, &rng.bytes(n))
+}
+
+fn eos(rng: &mut Rng) -> Piece {
+    let n = if rng.chance(1, 8) {
+        rng.below(4) * 4
+    } else {
+        0
+    };
+    piece(0xFB, &rng.bytes(n))
+}
+
+/// A packet of reserved type, empty or not.
+fn other(rng: &mut Rng) -> Piece {
+    let kind = rng.pick(&[0xFA, 0xFE, 0xFF, 0x00, 0xBD, 0xBE, 0x3C]);
+    let n = rng.below(3) * 4;
+    piece(kind, &rng.bytes(n))
+}
+
+/// A map that lists the tracks, and at times more that it does not list.
+fn map(tracks: &[(u8, u8)], rng: &mut Rng) -> Piece {
+    let mut model = Model::empty();
+    if rng.chance(1, 3) {
+        model
+            .material
+            .push(Item::new(0x41, &rng.edge32().to_be_bytes()));
+    }
+    for (id, kind) in tracks {
+        let mut items = Vec::new();
+        if rng.chance(1, 4) {
+            items.push(Item::new(0x4C, &maps::text(rng)));
+        }
+        model.tracks.push(Track {
+            type_byte: 0x80 + kind,
+            id_byte: 0xC0 + id,
+            items,
+            overhang: 0,
+        });
+    }
+    piece(0xBC, &model.bytes()[16..])
+}
+
+/// Field numbers that a narrowing or a mixed-up byte order would take for others.
+fn field(rng: &mut Rng) -> u32 {
+    if rng.chance(1, 8) {
+        rng.edge32()
+    } else {
+        rng.below(6) as u32
+    }
+}
+
+/// Tracks with different IDs.
+fn tracks(rng: &mut Rng) -> Vec<(u8, u8)> {
+    let mut ids: Vec<u8> = vec![0, 1, 2, 3, 17, 62, 63];
+    rng.shuffle(&mut ids);
+    let n = 1 + rng.below(3);
+    ids.truncate(n);
+    ids.into_iter()
+        .map(|id| (id, rng.pick(&KNOWN_TYPES)))
+        .collect()
+}
+
+fn any_media(tracks: &[(u8, u8)], rng: &mut Rng) -> Piece {
+    let field = field(rng);
+    if rng.chance(1, 6) {
+        // of reserved type: stepped over, whatever its ID up to 63
+        let kind = rng.pick(&[0, 1, 2, 5, 6, 19, 27, 0x8A, 255]);
+        let id = if rng.chance(1, 2) {
+            rng.pick(tracks).0
+        } else {
+            rng.below(64) as u8
+        };
+        return media(kind, id, field, rng);
+    }
+    let (id, kind) = rng.pick(tracks);
+    media(kind, id, field, rng)
+}
+
+/// A stream that passes; without `own_flt` it has no FLT.
+fn plain(rng: &mut Rng, own_flt: bool) -> Stream {
+    let tracks = tracks(rng);
+    let mut pieces = vec![map(&tracks, rng)];
+    let n = if rng.chance(1, 12) {
+        rng.below(40)
+    } else {
+        rng.below(8)
+    };
+    for _ in 0..n {
+        let next = match rng.below(10) {
+            0 => map(&tracks, rng),
+            1 => umf(rng),
+            2 => other(rng),
+            _ => any_media(&tracks, rng),
+        };
+        pieces.push(next);
+    }
+    let at = 1 + rng.below(pieces.len());
+    pieces.insert(at, umf(rng));
+    let end = eos(rng);
+    pieces.push(end);
+    if own_flt {
+        match rng.below(4) {
+            0 => pieces.insert(1, flt(rng)),
+            1 => {
+                let at = pieces.len() - 1;
+                pieces.insert(at, flt(rng));
+            }
+            _ => {}
+        }
+    }
+    for piece in &mut pieces {
+        stir_reserved(rng, &mut piece.bytes);
+    }
+    Stream { pieces, tracks }
+}
+
+pub fn good(rng: &mut Rng) -> Stream {
+    plain(rng, true)
+}
+
+fn ask(stream: &Stream) -> Request {
+    Request::new(CHECK, &[], &[&stream.bytes()])
+}
+
+pub fn check_valid(rng: &mut Rng) -> Made {
+    let stream = good(rng);
+    (ask(&stream), stream.ok())
+}
+
+/// One, two or three FLTs anywhere behind the first map; the claim follows 01's sentence on 19.
+pub fn check_flt(rng: &mut Rng) -> Made {
+    let mut stream = plain(rng, false);
+    for _ in 0..rng.pick(&[1, 1, 1, 2, 2, 3]) {
+        let at = 1 + rng.below(stream.pieces.len() - 1);
+        let packet = flt(rng);
+        stream.pieces.insert(at, packet);
+    }
+    let flts: Vec<usize> = (0..stream.pieces.len())
+        .filter(|i| stream.pieces[*i].kind == 0xFC)
+        .collect();
+    let first = flts[0];
+    let claim = if first != 1 && stream.pieces[first + 1].kind != 0xFB {
+        refused(19, stream.offset(first + 1))
+    } else if flts.len() > 1 {
+        refused(19, stream.offset(flts[1]))
+    } else {
+        stream.ok()
+    };
+    (ask(&stream), claim)
+}
+
+/// 97 to 102 packets that are no map, in the first run or a later one, EOS among them or not.
+pub fn check_runs(rng: &mut Rng) -> Made {
+    let tracks = tracks(rng);
+    let mut pieces = vec![map(&tracks, rng)];
+    if rng.chance(1, 3) {
+        for _ in 0..rng.below(90) {
+            pieces.push(any_media(&tracks, rng));
+        }
+        pieces.push(map(&tracks, rng));
+    }
+    let start = pieces.len();
+    let run = 97 + rng.below(6);
+    let ends = rng.chance(1, 2); // EOS is the last of the run
+    for i in 0..run {
+        let next = if i == 0 {
+            umf(rng)
+        } else if ends && i + 1 == run {
+            eos(rng)
+        } else if rng.chance(1, 20) {
+            other(rng)
+        } else {
+            any_media(&tracks, rng)
+        };
+        pieces.push(next);
+    }
+    if !ends {
+        pieces.push(map(&tracks, rng));
+        pieces.push(eos(rng));
+    }
+    let stream = Stream { pieces, tracks };
+    let claim = if run >= 100 {
+        refused(20, stream.offset(start + 99))
+    } else {
+        stream.ok()
+    };
+    (ask(&stream), claim)
+}
+
+/// Torn tails, bytes after EOS, no EOS, no UMF.
+pub fn check_ends(rng: &mut Rng) -> Made {
+    let mut stream = good(rng);
+    let last = stream.eos();
+    match rng.below(6) {
+        // cut inside a packet: 1 where under 16 bytes are left, else 5; at a packet's start 18
+        0 | 1 => {
+            let mut bytes = stream.bytes();
+            let cut = rng.below(bytes.len());
+            bytes.truncate(cut);
+            let i = (0..=last)
+                .rev()
+                .find(|i| stream.offset(*i) <= cut as u64)
+                .unwrap();
+            let left = cut as u64 - stream.offset(i);
+            // an FLT in the last place but one is not yet at fault; a cut there is the first fault
+            let claim = match left {
+                0 if cut == 0 => refused(17, 0),
+                0 => refused(18, cut as u64),
+                1..=15 => refused(1, stream.offset(i)),
+                _ => refused(5, stream.offset(i)),
+            };
+            (Request::new(CHECK, &[], &[&bytes]), claim)
+        }
+        // bytes after EOS, also with no UMF
+        2 | 3 => {
+            let mut bytes = stream.bytes();
+            let claim = refused(18, stream.offset(last));
+            if rng.chance(1, 3) {
+                let n = 1 + rng.below(40);
+                bytes.extend(rng.bytes(n));
+            } else if rng.chance(1, 2) {
+                bytes.push(0);
+            } else {
+                let again = good(rng).bytes();
+                bytes.extend(again);
+            }
+            (Request::new(CHECK, &[], &[&bytes]), claim)
+        }
+        // no EOS at all
+        4 => {
+            stream.pieces.pop();
+            (ask(&stream), refused(18, stream.length()))
+        }
+        // no UMF; at times bytes after EOS too, where 18 comes first
+        _ => {
+            let tracks = stream.tracks.clone();
+            for piece in &mut stream.pieces {
+                if piece.kind == 0xFD {
+                    *piece = any_media(&tracks, rng);
+                }
+            }
+            let place = stream.offset(stream.eos());
+            let mut bytes = stream.bytes();
+            let more = rng.chance(1, 3);
+            if more {
+                bytes.push(rng.byte());
+            }
+            let claim = refused(if more { 18 } else { 21 }, place);
+            (Request::new(CHECK, &[], &[&bytes]), claim)
+        }
+    }
+}
+
+/// Media packets that the latest map does not list with ID and type.
+pub fn check_tracks(rng: &mut Rng) -> Made {
+    let mut stream = plain(rng, false);
+    let (id, kind) = stream.tracks[0];
+    let mut at = 1 + rng.below(stream.pieces.len() - 1);
+    match rng.below(4) {
+        // another ID
+        0 => {
+            let free = (0..64)
+                .find(|i| stream.tracks.iter().all(|t| t.0 != *i))
+                .unwrap();
+            let wrong = media(kind, free, 0, rng);
+            stream.pieces.insert(at, wrong);
+        }
+        // another type
+        1 => {
+            let wrong = rng.pick(&KNOWN_TYPES);
+            if wrong == kind {
+                return (ask(&stream), stream.ok());
+            }
+            let wrong = media(wrong, id, 0, rng);
+            stream.pieces.insert(at, wrong);
+        }
+        // listed by an earlier map only
+        2 => {
+            let newer: Vec<(u8, u8)> = stream.tracks[1..].to_vec();
+            let newer = map(&newer, rng);
+            let wrong = media(kind, id, 0, rng);
+            stream.pieces.insert(at, newer);
+            at += 1;
+            stream.pieces.insert(at, wrong);
+        }
+        // in the map, but as a track of reserved type
+        _ => {
+            let newer = map(&[(id, rng.pick(&[0, 5, 19, 27, 127]))], rng);
+            let wrong = media(kind, id, 0, rng);
+            stream.pieces.insert(at, newer);
+            at += 1;
+            stream.pieces.insert(at, wrong);
+        }
+    }
+    (ask(&stream), refused(22, stream.offset(at)))
+}
+
+/// A fault inside a map, an FLT or a media packet; the check adds the packet's offset.
+fn bad_content(rng: &mut Rng) -> (Piece, u8, u64) {
+    match rng.below(8) {
+        0 => (piece(0xBC, &[]), 8, 16),
+        1 => (piece(0xBC, &[0xE1, 0xFF, 0, 0, 0, 0]), 7, 16),
+        2 => (
+            piece(0xBC, &[0xE0, 0xFF, 0, 0, 0, 4, 0x0A, 0xC1, 0, 0]),
+            12,
+            22,
+        ),
+        3 => (piece(0xBC, &[0xE0, 0xFF, 0, 3, 0x41, 1, 9, 0, 0]), 9, 20),
+        4 => (piece(0xFC, &flt_payload(1, 1_001, &[])), 14, 16),
+        5 => (piece(0xFC, &flt_payload(0, 0, &[])), 15, 16),
+        6 => {
+            let n = rng.below(4) * 4;
+            let kind = rng.pick(&[0xBF, 0xFC]);
+            let n = if kind == 0xFC { n.min(4) } else { n };
+            (piece(kind, &rng.bytes(n)), 8, 16)
+        }
+        // ID over 63, in a media packet of any type: the packet's own offset
+        _ => {
+            let kind = rng.byte();
+            let id = edge_id(rng).max(64);
+            (
+                piece(0xBF, &media_payload(kind, id, 0, [0, 0], 0, &[])),
+                12,
+                0,
+            )
+        }
+    }
+}
+
+pub fn check_content(rng: &mut Rng) -> Made {
+    let mut stream = good(rng);
+    let (bad, number, inside) = bad_content(rng);
+    let at = if bad.kind == 0xBC {
+        rng.below(stream.pieces.len())
+    } else {
+        1 + rng.below(stream.eos())
+    };
+    // a follower of a late FLT would be 19 only after its content; content comes first
+    stream.pieces.insert(at, bad);
+    let place = stream.offset(at) + inside;
+    (ask(&stream), refused(number, place))
+}
+
+/// Two faults at one packet: content before 19, 19 before 20, 19 and 20 before 22, 20 before 18 and 21.
+pub fn check_pair(rng: &mut Rng) -> Made {
+    let tracks = tracks(rng);
+    let mut pieces = vec![map(&tracks, rng)];
+    let unlisted = |rng: &mut Rng| media(tracks[0].1, 40, 0, rng);
+    let fill = |pieces: &mut Vec<Piece>, n: usize, rng: &mut Rng| {
+        while pieces.len() < n {
+            pieces.push(any_media(&tracks, rng));
+        }
+    };
+    let (number, inside) = match rng.below(6) {
+        // the content of a second FLT
+        0 => {
+            pieces.push(flt(rng));
+            pieces.push(piece(0xFC, &flt_payload(0, 0, &[])));
+            (15, 16)
+        }
+        // a late FLT's follower is unlisted media
+        1 => {
+            fill(&mut pieces, 2, rng);
+            pieces.push(flt(rng));
+            let wrong = unlisted(rng);
+            pieces.push(wrong);
+            (19, 0)
+        }
+        // 19 on the hundredth
+        2 => {
+            fill(&mut pieces, 99, rng);
+            pieces.push(flt(rng));
+            let wrong = unlisted(rng);
+            pieces.push(wrong);
+            (19, 0)
+        }
+        // 20 before 22
+        3 => {
+            fill(&mut pieces, 100, rng);
+            let wrong = unlisted(rng);
+            pieces.push(wrong);
+            (20, 0)
+        }
+        // EOS as the hundredth, with bytes after it and no UMF
+        4 => {
+            fill(&mut pieces, 100, rng);
+            let end = eos(rng);
+            pieces.push(end);
+            (20, 0)
+        }
+        // EOS behind a late FLT is no 19; then 21
+        _ => {
+            fill(&mut pieces, 3, rng);
+            pieces.push(flt(rng));
+            let end = eos(rng);
+            pieces.push(end);
+            (21, 0)
+        }
+    };
+    let at = pieces.len() - 1;
+    let stream = Stream {
+        pieces,
+        tracks: tracks.clone(),
+    };
+    let mut bytes = stream.bytes();
+    if number != 21 && rng.chance(1, 2) {
+        let n = rng.below(20);
+        bytes.extend(rng.bytes(n));
+    }
+    (
+        Request::new(CHECK, &[], &[&bytes]),
+        refused(number, stream.offset(at) + inside),
+    )
+}
+
+/// Empty streams, first packets that are no map, torn first packets.
+pub fn check_first(rng: &mut Rng) -> Made {
+    let mut stream = good(rng);
+    match rng.below(4) {
+        0 if rng.chance(1, 4) => (Request::new(CHECK, &[], &[&[][..]]), refused(17, 0)),
+        // a whole first packet that is no map, its content bad or not
+        0 | 1 => {
+            let first = match rng.below(4) {
+                0 => umf(rng),
+                1 => eos(rng),
+                2 => other(rng),
+                _ => piece(rng.pick(&[0xBF, 0xFC]), &[]),
+            };
+            stream.pieces.insert(0, first);
+            (ask(&stream), refused(17, 0))
+        }
+        2 => {
+            let mut bytes = stream.bytes();
+            let cut = 1 + rng.below(15);
+            bytes.truncate(cut);
+            (Request::new(CHECK, &[], &[&bytes]), refused(1, 0))
+        }
+        // header faults of the first packet come before 17
+        _ => {
+            let mut bytes = stream.bytes();
+            bytes[5] = rng.byte();
+            let number = match rng.below(4) {
+                0 => {
+                    bytes[rng.pick(&[0, 1, 2, 3, 4])] ^= 0x10;
+                    2
+                }
+                1 => {
+                    bytes[14 + rng.below(2)] ^= 0x01;
+                    3
+                }
+                2 => {
+                    bytes[9] |= 1;
+                    4
+                }
+                _ => {
+                    bytes[6] = 0x80;
+                    5
+                }
+            };
+            (Request::new(CHECK, &[], &[&bytes]), refused(number, 0))
+        }
+    }
+}
+
+/// Packets moved, doubled, dropped, and bytes damaged.
+fn stirred(rng: &mut Rng) -> Vec<u8> {
+    let mut stream = good(rng);
+    for _ in 0..rng.below(4) {
+        let n = stream.pieces.len();
+        match rng.below(4) {
+            0 => {
+                stream.pieces.remove(rng.below(n));
+            }
+            1 => {
+                let again = stream.pieces[rng.below(n)].clone();
+                stream.pieces.insert(rng.below(n + 1), again);
+            }
+            2 => stream.pieces.swap(rng.below(n), rng.below(n)),
+            _ => {
+                let tracks = tracks(rng);
+                let more = match rng.below(4) {
+                    0 => flt(rng),
+                    1 => map(&tracks, rng),
+                    2 => any_media(&tracks, rng),
+                    _ => other(rng),
+                };
+                stream.pieces.insert(rng.below(n + 1), more);
+            }
+        }
+        if stream.pieces.is_empty() {
+            break;
+        }
+    }
+    let mut bytes = stream.bytes();
+    for _ in 0..rng.below(3) {
+        damage(rng, &mut bytes);
+    }
+    bytes
+}
+
+pub fn check_damage(rng: &mut Rng) -> Made {
+    let bytes = stirred(rng);
+    (Request::new(CHECK, &[], &[&bytes]), None)
+}
+
+/// The first packet that carries the field, told from the pieces.
+pub fn carrier(stream: &Stream, track: u64, field: u64) -> Option<u64> {
+    let i = stream.pieces.iter().position(|piece| {
+        piece
+            .carries
+            .is_some_and(|(id, f)| u64::from(id) == track && u64::from(f) == field)
+    })?;
+    Some(stream.offset(i))
+}
+
+/// A track and a field: carried by some packet, or near one that is.
+pub fn question(rng: &mut Rng, stream: &Stream, near: bool) -> (u64, u64) {
+    let carried: Vec<(u8, u32)> = stream
+        .pieces
+        .iter()
+        .filter_map(|piece| piece.carries)
+        .collect();
+    if carried.is_empty() {
+        return (rng.below(66) as u64, rng.edge());
+    }
+    let (id, field) = rng.pick(&carried);
+    let (id, field) = (u64::from(id), u64::from(field));
+    if !near {
+        return (id, field);
+    }
+    match rng.below(6) {
+        0 => (
+            id + rng.pick(&[64, 128, 192, 256, 65_536, 1 << 32, 1 << 63]),
+            field,
+        ),
+        1 => (id, field + (1 << 32)),
+        2 => (id, field | 1 << 63),
+        3 => (id, field + 1),
+        4 => (rng.below(65) as u64, field),
+        _ => (rng.edge(), rng.edge()),
+    }
+}
+
+fn seek(rng: &mut Rng, near: bool) -> Made {
+    let stream = good(rng);
+    let (track, field) = question(rng, &stream, near);
+    let claim = match carrier(&stream, track, field) {
+        Some(at) => Some(format!("at {at}")),
+        None => refused(16, 0),
+    };
+    (
+        Request::new(SEEK, &[track, field], &[&stream.bytes()]),
+        claim,
+    )
+}
+
+pub fn seek_found(rng: &mut Rng) -> Made {
+    seek(rng, false)
+}
+
+pub fn seek_asked(rng: &mut Rng) -> Made {
+    seek(rng, true)
+}
+
+pub fn seek_damage(rng: &mut Rng) -> Made {
+    let bytes = stirred(rng);
+    let track = rng.pick(&[0, 1, 2, 3, 17, 62, 63, 64]);
+    let field = u64::from(field(rng));
+    (Request::new(SEEK, &[track, field], &[&bytes]), None)
+}
+
+pub fn damaged_bytes(rng: &mut Rng) -> Vec<u8> {
+    stirred(rng)
+}
+
+fn walk(bytes: &[u8], n: u64, claim: Option<String>) -> Made {
+    (Request::new(WALK, &[n], &[bytes]), claim)
+}
+
+/// A walker over any packets, EOS no end, bad content no fault, and past the last byte.
+pub fn walk_stream(rng: &mut Rng) -> Made {
+    let mut stream = good(rng);
+    for _ in 0..rng.below(3) {
+        let bad = bad_content(rng).0;
+        let at = rng.below(stream.pieces.len() + 1);
+        stream.pieces.insert(at, bad);
+    }
+    if rng.chance(1, 3) {
+        stream.pieces.extend(good(rng).pieces);
+    }
+    let n = rng.below(stream.pieces.len() + 4);
+    let mut claim = "walk".to_string();
+    let mut place = 0;
+    for i in 0..n {
+        if let Some(piece) = stream.pieces.get(i) {
+            place += piece.bytes.len();
+            claim += &format!(" packet {} {} {place}", piece.kind, piece.bytes.len());
+        } else {
+            claim += &format!(" refused 1 {place} {place}");
+        }
+    }
+    walk(&stream.bytes(), n as u64, Some(claim))
+}
+
+pub fn walk_damage(rng: &mut Rng) -> Made {
+    let bytes = if rng.chance(1, 6) {
+        let n = rng.below(40);
+        rng.bytes(n)
+    } else {
+        stirred(rng)
+    };
+    let n = rng.below(14) as u64;
+    walk(&bytes, n, None)
+}

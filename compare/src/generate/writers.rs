@@ -1,0 +1,523 @@
+//! Inputs of the writers, with numbers at every edge, short rooms and places beyond.
+
+use super::packets::{flt_payload, packet, KNOWN_TYPES};
+use super::Made;
+use crate::request::{hex, lent_room, word_bytes, Request, WRITE_FLT, WRITE_MAP};
+use crate::rng::{Rng, EDGES};
+
+/// A place and a room for a packet of this length; `fits` says whether they do.
+fn room_for(rng: &mut Rng, length: usize) -> (u64, u64, bool) {
+    let before = if rng.chance(1, 2) { 0 } else { rng.below(20) };
+    let after = if rng.chance(1, 2) { 0 } else { rng.below(20) };
+    let room = (before + length + after) as u64;
+    match rng.below(12) {
+        0 => (before as u64 + after as u64 + 1, room, false), // one byte short
+        1 => (room, room, false),
+        2 => (room + 1, room, false),
+        3 => (rng.edge().max(70_000), room, false),
+        4 => (0, rng.below(length) as u64, false),
+        _ => (before as u64, room, true),
+    }
+}
+
+/// The room as it must be: the packet at its place, all else as it was.
+fn written(at: u64, room: u64, packet: &[u8]) -> Option<String> {
+    let mut lent = lent_room(room);
+    lent[at as usize..at as usize + packet.len()].copy_from_slice(packet);
+    Some(format!("length {} {}", packet.len(), hex(&lent)))
+}
+
+/// Refused: the room is as it was.
+fn unwritten(number: u8, room: u64) -> Option<String> {
+    Some(format!("refused {number} 0 {}", hex(&lent_room(room))))
+}
+
+fn ask_flt(at: u64, room: u64, step: u64, offsets: &[u64]) -> Request {
+    Request::new(WRITE_FLT, &[at, room, step], &[&word_bytes(offsets)])
+}
+
+pub fn flt_valid(rng: &mut Rng) -> Made {
+    let n = match rng.below(40) {
+        0 => 1_000,
+        1 => 999,
+        2 => 256,
+        _ => rng.below(8),
+    };
+    let offsets: Vec<u32> = (0..n).map(|_| rng.edge32()).collect();
+    let step = rng.edge32().max(1);
+    let bytes = packet(0xFC, &flt_payload(step, n as u32, &offsets));
+    let (at, room, fits) = room_for(rng, bytes.len());
+    let claim = if fits {
+        written(at, room, &bytes)
+    } else {
+        unwritten(13, room)
+    };
+    let wide: Vec<u64> = offsets.iter().map(|offset| u64::from(*offset)).collect();
+    (ask_flt(at, room, u64::from(step), &wide), claim)
+}
+
+/// Step, offsets and count at every edge, mostly one at a time; 24 also with a room too small.
+pub fn flt_edges(rng: &mut Rng) -> Made {
+    let which = rng.below(4);
+    let n = match rng.below(4) {
+        0 if which == 0 => 1_002 + rng.below(200),
+        1 if which == 0 => 1_000,
+        _ if which == 0 => 1_001,
+        _ => rng.below(4),
+    };
+    let mut offsets: Vec<u64> = (0..n).map(|_| u64::from(rng.edge32())).collect();
+    if which & 1 != 0 {
+        offsets.push(rng.edge());
+        let at = rng.below(offsets.len());
+        offsets[at] = if rng.chance(1, 3) {
+            1 << 32
+        } else {
+            rng.edge()
+        };
+    }
+    let step = if which & 2 != 0 {
+        rng.edge()
+    } else {
+        u64::from(rng.edge32().max(1))
+    };
+    let n = offsets.len();
+    let (at, room, _) = room_for(rng, 24 + 4 * n);
+    let barred = step == 0 || step >> 32 != 0 || n > 1_000 || offsets.iter().any(|o| o >> 32 != 0);
+    let claim = if barred { unwritten(24, room) } else { None };
+    (ask_flt(at, room, step, &offsets), claim)
+}
+
+/// The three words of a slot.
+type Slot = [u64; 3];
+
+/// The writer's input, before it is made words.
+#[derive(Clone)]
+pub struct Input {
+    pub text: Vec<u8>,
+    pub material: [Slot; 6],
+    pub tracks: Vec<(u64, u64, [Slot; 7])>,
+}
+
+/// An absent slot, whose a and b are not looked at.
+fn absent(rng: &mut Rng) -> Slot {
+    if rng.chance(1, 2) {
+        [0, 0, 0]
+    } else {
+        [0, rng.edge(), rng.edge()]
+    }
+}
+
+/// A good text in the lent text: an old part of it or a new one.
+fn text_slot(rng: &mut Rng, text: &mut Vec<u8>, empty: bool) -> Slot {
+    if empty {
+        return [1, rng.below(text.len() + 1) as u64, 0];
+    }
+    let n = match rng.below(25) {
+        0 => 254,
+        1 => 253,
+        _ => 1 + rng.below(9),
+    };
+    let place = text.len();
+    text.extend((0..n).map(|_| {
+        if rng.chance(1, 10) {
+            rng.pick(&[0x01, 0x7F, 0x0A])
+        } else {
+            0x20 + rng.below(0x5F) as u8
+        }
+    }));
+    [1, place as u64, n as u64]
+}
+
+fn number_slot(rng: &mut Rng) -> Slot {
+    [1, u64::from(rng.edge32()), rng.edge()]
+}
+
+fn code_slot(rng: &mut Rng, listed: &[i64]) -> Slot {
+    let code = if rng.chance(1, 4) {
+        rng.pick(&[-1, -2])
+    } else {
+        rng.pick(listed)
+    };
+    [1, code as u64, rng.edge()]
+}
+
+/// An input that is accepted, and the packet that it gives.
+pub fn good(rng: &mut Rng) -> (Input, Vec<u8>) {
+    let mut text = Vec::new();
+    let mut material: [Slot; 6] = [[0; 3]; 6];
+    let mut items: Vec<u8> = Vec::new();
+    let null = rng.chance(1, 5);
+    for (i, slot) in material.iter_mut().enumerate() {
+        *slot = if rng.chance(1, 2) {
+            absent(rng)
+        } else if i == 0 {
+            text_slot(rng, &mut text, null)
+        } else {
+            number_slot(rng)
+        };
+    }
+    let mut ids: Vec<u8> = (0..64).collect();
+    rng.shuffle(&mut ids);
+    let n = if rng.chance(1, 40) { 64 } else { rng.below(5) };
+    let mut tracks = Vec::new();
+    for id in ids.into_iter().take(n) {
+        let kind = rng.pick(&KNOWN_TYPES);
+        let mut slots: [Slot; 7] = [[0; 3]; 7];
+        for slot in &mut slots {
+            *slot = absent(rng);
+        }
+        let null = rng.chance(1, 5);
+        if rng.chance(2, 3) || null {
+            slots[0] = text_slot(rng, &mut text, null);
+        }
+        if !null {
+            match rng.below(3) {
+                0 => {
+                    slots[1] = [1, text.len() as u64, 8];
+                    let any = rng.bytes(8); // 00 and bytes over 7F are fine in 4D
+                    text.extend(any);
+                }
+                1 => {
+                    let empty = rng.chance(1, 4);
+                    slots[3] = text_slot(rng, &mut text, empty);
+                }
+                _ => {}
+            }
+            if rng.chance(1, 2) {
+                slots[2] = number_slot(rng);
+            }
+        }
+        if rng.chance(1, 2) {
+            slots[4] = code_slot(rng, &[1, 2, 3, 4, 5, 6, 7, 8]);
+        }
+        if rng.chance(1, 2) {
+            slots[5] = code_slot(rng, &[1, 2, 4, 6]);
+        }
+        if rng.chance(1, 2) {
+            slots[6] = code_slot(rng, &[1, 2]);
+        }
+        tracks.push((u64::from(kind), u64::from(id), slots));
+    }
+    if rng.chance(1, 3) {
+        text.push(0x41);
+    }
+    // the packet, put together by the tags
+    let put = |items: &mut Vec<u8>, tag: u8, slot: &Slot| {
+        if slot[0] == 0 {
+            return;
+        }
+        let (a, b) = (slot[1] as usize, slot[2] as usize);
+        match tag {
+            0x40 | 0x4C | 0x4F => {
+                items.extend([tag, b as u8 + 1]);
+                items.extend(&text[a..a + b]);
+                items.push(0);
+            }
+            0x4D => {
+                items.extend([tag, 8]);
+                items.extend(&text[a..a + 8]);
+            }
+            _ => {
+                items.extend([tag, 4]);
+                items.extend((slot[1] as u32).to_be_bytes());
+            }
+        }
+    };
+    for (tag, slot) in (0x40..).zip(&material) {
+        put(&mut items, tag, slot);
+    }
+    let mut payload = vec![0xE0, 0xFF];
+    payload.extend((items.len() as u16).to_be_bytes());
+    payload.extend(&items);
+    let mut section = Vec::new();
+    for (kind, id, slots) in &tracks {
+        let mut items = Vec::new();
+        for (tag, slot) in (0x4C..).zip(slots) {
+            put(&mut items, tag, slot);
+        }
+        section.extend([0x80 + *kind as u8, 0xC0 + *id as u8]);
+        section.extend((items.len() as u16).to_be_bytes());
+        section.extend(items);
+    }
+    payload.extend((section.len() as u16).to_be_bytes());
+    payload.extend(section);
+    let bytes = packet(0xBC, &payload);
+    let input = Input {
+        text,
+        material,
+        tracks,
+    };
+    (input, bytes)
+}
+
+impl Input {
+    pub fn words(&self) -> (Vec<u64>, Vec<u64>) {
+        let material = self.material.concat();
+        let mut tracks = Vec::new();
+        for (kind, id, slots) in &self.tracks {
+            tracks.extend([*kind, *id]);
+            tracks.extend(slots.concat());
+        }
+        (material, tracks)
+    }
+
+    pub fn ask(&self, at: u64, room: u64) -> Request {
+        let (material, tracks) = self.words();
+        ask(at, room, &self.text, &material, &tracks)
+    }
+}
+
+fn ask(at: u64, room: u64, text: &[u8], material: &[u64], tracks: &[u64]) -> Request {
+    let words = [word_bytes(material), word_bytes(tracks)];
+    Request::new(WRITE_MAP, &[at, room], &[text, &words[0], &words[1]])
+}
+
+pub fn map_valid(rng: &mut Rng) -> Made {
+    let (input, bytes) = good(rng);
+    let before = rng.below(9) as u64;
+    let room = before + bytes.len() as u64 + rng.below(9) as u64;
+    (input.ask(before, room), written(before, room, &bytes))
+}
+
+pub fn map_room(rng: &mut Rng) -> Made {
+    let (input, bytes) = good(rng);
+    let (at, room, fits) = room_for(rng, bytes.len());
+    let claim = if fits {
+        written(at, room, &bytes)
+    } else {
+        unwritten(13, room)
+    };
+    (input.ask(at, room), claim)
+}
+
+/// A track that is there, or a new one.
+fn some_track(input: &mut Input) -> &mut (u64, u64, [Slot; 7]) {
+    if input.tracks.is_empty() {
+        input.tracks.push((10, 1, [[0; 3]; 7]));
+    }
+    input.tracks.last_mut().unwrap()
+}
+
+/// A number that is none of a list.
+fn off(rng: &mut Rng, good: &[u64]) -> u64 {
+    loop {
+        let number = rng.edge();
+        if !good.contains(&number) {
+            return number;
+        }
+    }
+}
+
+/// The slots of codes and their listed values.
+const CODES: [(usize, &[u64]); 3] = [
+    (4, &[1, 2, 3, 4, 5, 6, 7, 8]),
+    (5, &[1, 2, 4, 6]),
+    (6, &[1, 2]),
+];
+const MINUS: [u64; 2] = [u64::MAX, u64::MAX - 1];
+
+/// Sets in one reason for 24.
+fn bar(rng: &mut Rng, input: &mut Input) {
+    let over = EDGES
+        .iter()
+        .filter(|n| **n > u64::from(u32::MAX))
+        .copied()
+        .collect::<Vec<_>>();
+    let length = input.text.len() as u64;
+    match rng.below(14) {
+        0 => input.material[1 + rng.below(5)] = [1, rng.pick(&over), 0],
+        1 => some_track(input).2[2] = [1, rng.pick(&over), 0],
+        2 => {
+            let (slot, good) = rng.pick(&CODES);
+            let all = [good, &MINUS].concat();
+            let code = match rng.below(4) {
+                0 => rng.pick(&[
+                    0xFFFF_FFFF,
+                    0xFFFF_FFFE,
+                    0xFFFF_FFFF_FFFF_FFFD,
+                    1 << 32 | 1,
+                    1 << 63 | 1,
+                ]),
+                1 => rng.pick(&[0, 9, 10]),
+                _ => off(rng, &all),
+            };
+            some_track(input).2[slot] = [1, code, 0];
+        }
+        3 => {
+            let known: Vec<u64> = KNOWN_TYPES.iter().map(|kind| u64::from(*kind)).collect();
+            let kind = match rng.below(3) {
+                0 => rng.pick(&[0, 2, 5, 6, 19, 27, 127]),
+                1 => rng.pick(&known) + rng.pick(&[128, 256, 65_536, 1 << 32, 1 << 63]),
+                _ => off(rng, &known),
+            };
+            some_track(input).0 = kind;
+        }
+        4 => {
+            some_track(input).1 =
+                rng.pick(&[64, 64, 65, 0xC1, 255, 256, 1 << 32, 1 << 63, u64::MAX]);
+        }
+        // a mark that is neither
+        5 => {
+            let mark = rng.pick(&[2, 3, 255, 256, 1 << 32, 1 << 32 | 1, u64::MAX]);
+            if rng.chance(1, 2) {
+                input.material[rng.below(6)][0] = mark;
+            } else {
+                some_track(input).2[rng.below(7)][0] = mark;
+            }
+        }
+        // a text over 254
+        6 => {
+            input.text.resize(input.text.len() + 300, 0x41);
+            let slot = [1, length, rng.pick(&[255, 256, 257, 300])];
+            if rng.chance(1, 2) {
+                input.material[0] = slot;
+            } else {
+                some_track(input).2[rng.pick(&[0, 3])] = slot;
+            }
+        }
+        // a part outside the text
+        7 => {
+            let (a, b) = rng.pick(&[
+                (length, 1),
+                (length + 1, 0),
+                (length.saturating_sub(3), 4),
+                (u64::MAX, 0),
+                (u64::MAX, 1),
+                (u64::MAX - 1, 2),
+                (u64::MAX - 7, 8),
+                (1 << 32, 0),
+                (1 << 63, 5),
+                (0, length + 1),
+            ]);
+            if rng.chance(1, 2) {
+                input.material[0] = [1, a, b];
+            } else {
+                some_track(input).2[rng.pick(&[0, 3])] = [1, a, b];
+            }
+        }
+        8 => {
+            let a = rng.pick(&[
+                length.saturating_sub(7),
+                length,
+                length + 1,
+                u64::MAX,
+                u64::MAX - 7,
+                1 << 32,
+            ]);
+            some_track(input).2[1] = [1, a, 8];
+        }
+        9 => {
+            input.text.resize(input.text.len() + 20, 0x42);
+            some_track(input).2[1] = [1, length, rng.pick(&[0, 1, 4, 7, 9, 16, 256 + 8, u64::MAX])];
+        }
+        // beside a null name
+        _ => {
+            let text = input.text.len() as u64;
+            input.text.extend([0x43; 8]);
+            let track = some_track(input);
+            track.2[0] = [1, 0, 0];
+            match rng.below(4) {
+                0 => track.2[1] = [1, text, 8],
+                1 => track.2[2] = [1, 7, 0],
+                2 => track.2[3] = [1, text, 3],
+                _ => {
+                    // 24 comes before 10
+                    track.2[1] = [1, text, 8];
+                    track.2[3] = [1, text, 0];
+                }
+            }
+        }
+    }
+}
+
+/// Sets in a bad text: a 00 or a byte over 7F.
+fn spoil(rng: &mut Rng, input: &mut Input) {
+    let place = input.text.len() as u64;
+    let n = 1 + rng.below(6);
+    input.text.extend(vec![0x44; n]);
+    let i = place as usize + rng.below(n);
+    input.text[i] = rng.pick(&[0x00, 0x80, 0xFF]);
+    let slot = [1, place, n as u64];
+    match rng.below(3) {
+        0 => input.material[0] = slot,
+        1 => some_track(input).2[0] = slot,
+        _ => {
+            let track = some_track(input);
+            if track.2[0][0] == 1 && track.2[0][2] == 0 {
+                track.2[0] = [0, 0, 0]; // no null name beside it
+            }
+            track.2[3] = slot;
+        }
+    }
+}
+
+/// Sets in 4D with 4F, or an ID twice.
+fn double(rng: &mut Rng, input: &mut Input) {
+    if rng.chance(1, 2) {
+        let place = input.text.len() as u64;
+        input.text.extend([0x45; 8]);
+        let track = some_track(input);
+        track.2[0] = [0, 0, 0];
+        track.2[1] = [1, place, 8];
+        track.2[3] = [1, place, rng.below(9) as u64];
+    } else {
+        let first = *some_track(input);
+        let again = (rng.pick(&[3, 10, 26]), first.1, [[0; 3]; 7]);
+        let at = rng.below(input.tracks.len() + 1);
+        input.tracks.insert(at, again);
+    }
+}
+
+/// One or more reasons to refuse; the order 24, 11, 10, 13 decides.
+pub fn map_fault(rng: &mut Rng) -> Made {
+    let (mut input, bytes) = good(rng);
+    let mut number = 0;
+    let which = 1 + rng.below(7);
+    if which & 4 != 0 {
+        double(rng, &mut input);
+        number = 10;
+    }
+    if which & 2 != 0 {
+        spoil(rng, &mut input);
+        number = 11;
+    }
+    if which & 1 != 0 {
+        bar(rng, &mut input);
+        number = 24;
+    }
+    let (at, room, _) = room_for(rng, bytes.len());
+    let (mut material, mut tracks) = input.words();
+    if rng.chance(1, 12) {
+        number = 24;
+        match rng.below(4) {
+            0 => material.truncate(rng.below(18)),
+            1 => material.push(0),
+            2 => tracks.push(0),
+            _ => {
+                tracks.extend([10, 60]);
+                tracks.extend([0; 20]); // one word short
+            }
+        }
+    }
+    (
+        ask(at, room, &input.text, &material, &tracks),
+        unwritten(number, room),
+    )
+}
+
+/// Words at every edge anywhere.
+pub fn map_edges(rng: &mut Rng) -> Made {
+    let (input, bytes) = good(rng);
+    let (at, room, _) = room_for(rng, bytes.len());
+    let (mut material, mut tracks) = input.words();
+    for _ in 0..1 + rng.below(3) {
+        let i = rng.below(material.len() + tracks.len());
+        let word = rng.edge();
+        if i < material.len() {
+            material[i] = word;
+        } else {
+            tracks[i - material.len()] = word;
+        }
+    }
+    (ask(at, room, &input.text, &material, &tracks), None)
+}

@@ -1,0 +1,423 @@
+//! The driver: makes cases, asks the probe, compares line by line. docs/PROBE.md says how to run it.
+
+use compare::generate::{case, Case};
+use compare::own;
+use compare::reference::listing::listing;
+use compare::request::{answer, hex, Request, CHECK, MOST_BYTES, SHAPES};
+use std::collections::BTreeMap;
+use std::fs::File;
+use std::io::{self, BufRead, BufReader, BufWriter, Read, Write};
+use std::process::{Command, ExitCode, Stdio};
+use std::thread;
+
+const USAGE: &str = "\
+compare --cases N --seed S --probe PATH [--probe-arg A]... [--batch B]
+compare --cases N --seed S --requests FILE --expected FILE
+compare --listing PATH [--probe-arg A]... [--cases N] [--seed S]
+compare --self [--cases N] [--seed S]
+compare --show I --seed S";
+
+/// So many differences are shown.
+const SHOWN: u64 = 5;
+
+struct Options {
+    cases: u64,
+    seed: u64,
+    batch: u64,
+    probe: Option<String>,
+    listing: Option<String>,
+    probe_args: Vec<String>,
+    requests: Option<String>,
+    expected: Option<String>,
+    own: bool,
+    show: Option<u64>,
+}
+
+fn options() -> Result<Options, String> {
+    let mut o = Options {
+        cases: 100_000,
+        seed: 1,
+        batch: 10_000,
+        probe: None,
+        listing: None,
+        probe_args: Vec::new(),
+        requests: None,
+        expected: None,
+        own: false,
+        show: None,
+    };
+    let mut args = std::env::args().skip(1);
+    while let Some(arg) = args.next() {
+        let mut value = || args.next().ok_or(format!("{arg} wants a value"));
+        let number = |text: String| {
+            text.parse::<u64>()
+                .map_err(|_| format!("no number: {text}"))
+        };
+        match arg.as_str() {
+            "--cases" => o.cases = number(value()?)?,
+            "--seed" => o.seed = number(value()?)?,
+            "--batch" => o.batch = number(value()?)?.max(1),
+            "--probe" => o.probe = Some(value()?),
+            "--listing" => o.listing = Some(value()?),
+            "--probe-arg" => o.probe_args.push(value()?),
+            "--requests" => o.requests = Some(value()?),
+            "--expected" => o.expected = Some(value()?),
+            "--self" => o.own = true,
+            "--show" => o.show = Some(number(value()?)?),
+            _ => return Err(format!("not known: {arg}")),
+        }
+    }
+    Ok(o)
+}
+
+/// How many cases of a kind were accepted, and refused by number.
+#[derive(Default)]
+struct Row {
+    cases: u64,
+    accepted: u64,
+    refused: BTreeMap<u8, u64>,
+    differences: u64,
+}
+
+#[derive(Default)]
+struct Table(BTreeMap<String, Row>);
+
+/// The number of the first refusal in a line; a walker's may stand behind accepted steps.
+fn refusal(line: &str) -> Option<u8> {
+    let mut words = line.split(' ');
+    words.find(|word| *word == "refused")?;
+    words.next()?.parse().ok()
+}
+
+impl Table {
+    fn count(&mut self, kind: &str, line: &str) {
+        let row = self.0.entry(kind.to_string()).or_default();
+        row.cases += 1;
+        match refusal(line) {
+            None => row.accepted += 1,
+            Some(number) => *row.refused.entry(number).or_default() += 1,
+        }
+    }
+
+    fn differs(&mut self, kind: &str) {
+        self.0.entry(kind.to_string()).or_default().differences += 1;
+    }
+
+    fn print(&self) {
+        println!(
+            "{:<28} {:>7} {:>9}  refused (number:cases)",
+            "kind", "cases", "accepted"
+        );
+        let mut all = Row::default();
+        for (kind, row) in &self.0 {
+            Self::line(kind, row);
+            all.cases += row.cases;
+            all.accepted += row.accepted;
+            for (number, cases) in &row.refused {
+                *all.refused.entry(*number).or_default() += cases;
+            }
+        }
+        Self::line("all", &all);
+        let missed: Vec<String> = (1..=27)
+            .filter(|number| !all.refused.contains_key(number))
+            .map(|number| number.to_string())
+            .collect();
+        if missed.is_empty() {
+            println!("refusals not reached: none");
+        } else {
+            println!("refusals not reached: {}", missed.join(" "));
+        }
+        // 64 tracks of at most 542 bytes, and 287 bytes of material
+        println!("(25 cannot be reached: an ID twice is 10, so a written section has at most 34,688 bytes)");
+    }
+
+    fn line(kind: &str, row: &Row) {
+        let mut refused: Vec<String> = row
+            .refused
+            .iter()
+            .map(|(n, c)| format!("{n}:{c}"))
+            .collect();
+        if row.differences > 0 {
+            refused.push(format!("({} differ)", row.differences));
+        }
+        println!(
+            "{kind:<28} {:>7} {:>9}  {}",
+            row.cases,
+            row.accepted,
+            refused.join(" ")
+        );
+    }
+}
+
+/// A case with its line; the request keeps the format's limits.
+fn made(seed: u64, index: u64) -> (Case, String) {
+    let case = case(seed, index);
+    let fits = case
+        .request
+        .strings
+        .iter()
+        .all(|s| s.len() as u64 <= MOST_BYTES);
+    assert!(
+        fits && case.request.well_formed(),
+        "case {index} breaks the format"
+    );
+    let line = answer(&case.request);
+    (case, line)
+}
+
+/// Runs a program on some input and gives its lines; a thread feeds it, so that neither side waits for the other.
+fn ask(o: &Options, path: &str, input: Vec<u8>) -> io::Result<Vec<String>> {
+    let mut child = Command::new(path)
+        .args(&o.probe_args)
+        .stdin(Stdio::piped())
+        .stdout(Stdio::piped())
+        .spawn()?;
+    let mut stdin = child.stdin.take().expect("piped");
+    let feeder = thread::spawn(move || {
+        let _ = stdin.write_all(&input); // a probe that ended early shows in its lines
+    });
+    let mut lines = Vec::new();
+    let mut out = BufReader::new(child.stdout.take().expect("piped"));
+    let mut line = Vec::new();
+    while out.read_until(b'\n', &mut line)? > 0 {
+        lines.push(String::from_utf8_lossy(&line).into_owned());
+        line.clear();
+    }
+    let _ = out.read_to_end(&mut line);
+    let _ = feeder.join();
+    child.wait()?;
+    Ok(lines)
+}
+
+/// At most so many bytes of a long line, around the first difference.
+fn around(line: &str, at: usize) -> String {
+    let bytes = line.as_bytes();
+    if bytes.len() <= 400 {
+        return line.trim_end().to_string();
+    }
+    let from = at.saturating_sub(100).min(bytes.len());
+    let to = (from + 300).min(bytes.len());
+    format!(
+        "..{}..",
+        String::from_utf8_lossy(&bytes[from..to]).trim_end()
+    )
+}
+
+fn show_difference(kind: &str, index: u64, request: &Request, want: &str, got: Option<&String>) {
+    let got = got.map_or("(no line)", |line| line.as_str());
+    let same = want
+        .bytes()
+        .zip(got.bytes())
+        .take_while(|(a, b)| a == b)
+        .count();
+    println!("difference: {kind}, case {index}");
+    let bytes = request.encode();
+    if bytes.len() <= 2_000 {
+        println!("  request  {}", hex(&bytes));
+    } else {
+        println!("  request  {}.. (--show {index})", hex(&bytes[..2_000]));
+    }
+    println!("  expected {}", around(want, same));
+    println!("  probe    {}", around(got, same));
+}
+
+/// Requests that end a run with `malformed`, each behind one good request.
+fn malformed_runs() -> Vec<(&'static str, Vec<u8>)> {
+    let good = Request::new(0x01, &[0], &[&[0; 16]]).encode();
+    let mut runs = Vec::new();
+    let known = |byte: u8| SHAPES.iter().any(|shape| shape.0 == byte);
+    for byte in (0..=255).filter(|byte| !known(*byte)).step_by(16) {
+        let mut rest = vec![byte];
+        rest.extend(&good[1..]);
+        runs.push(("unknown function byte", rest));
+    }
+    for length in [65_537u32, 0x0100_0000, 0x8000_0000, u32::MAX] {
+        let mut rest = good[..9].to_vec();
+        rest.extend(length.to_le_bytes());
+        rest.extend([0; 40]);
+        runs.push(("length over 65,536", rest));
+    }
+    for cut in 1..good.len() {
+        runs.push(("input ends inside a request", good[..cut].to_vec()));
+    }
+    let over = [
+        Request::new(0x02, &[0, 256], &[&[0; 16]]),
+        Request::new(0x02, &[0, 0x1_0000_00BC], &[&[0; 16]]),
+        Request::new(0x03, &[0, 81], &[&[0; 16]]),
+        Request::new(0x0B, &[65_537], &[&[]]),
+        Request::new(0x0D, &[0, 65_537, 1], &[&[]]),
+        Request::new(0x0D, &[0, 64, 1], &[&[0; 7]]),
+        Request::new(0x0E, &[0, 65_537], &[&[], &[0; 144], &[]]),
+        Request::new(0x0E, &[0, 64], &[&[], &[0; 143], &[]]),
+        Request::new(0x0E, &[0, 64], &[&[], &[0; 144], &[0; 185]]),
+        Request::new(0x0F, &[5_001], &[&[]]),
+    ];
+    for request in over {
+        let mut rest = request.encode();
+        rest.extend(&good); // nothing after it is read
+        runs.push(("number or words over a limit", rest));
+    }
+    runs.into_iter()
+        .map(|(what, rest)| (what, [good.clone(), rest].concat()))
+        .collect()
+}
+
+fn compare(o: &Options, probe: &str) -> io::Result<bool> {
+    let mut table = Table::default();
+    let mut differences = 0;
+    let mut from = 0;
+    while from < o.cases {
+        let to = (from + o.batch).min(o.cases);
+        let mut input = Vec::new();
+        let mut wanted = Vec::new();
+        for index in from..to {
+            let (case, line) = made(o.seed, index);
+            input.extend(case.request.encode());
+            table.count(case.kind, &line);
+            wanted.push(line + "\n");
+        }
+        let lines = ask(o, probe, input)?;
+        for (i, want) in wanted.iter().enumerate() {
+            if lines.get(i) != Some(want) {
+                differences += 1;
+                let index = from + i as u64;
+                let case = case(o.seed, index);
+                table.differs(case.kind);
+                if differences <= SHOWN {
+                    show_difference(case.kind, index, &case.request, want, lines.get(i));
+                }
+            }
+        }
+        if lines.len() > wanted.len() {
+            differences += 1;
+            println!("difference: {} lines too many", lines.len() - wanted.len());
+        }
+        from = to;
+    }
+    let runs = malformed_runs();
+    let mut wrong = 0;
+    for (what, input) in &runs {
+        let lines = ask(o, probe, input.clone())?;
+        if lines != ["refused 2 0\n", "malformed\n"] {
+            differences += 1;
+            wrong += 1;
+            if wrong <= SHOWN {
+                println!("difference: {what}: {} gave {lines:?}", hex(input));
+            }
+        }
+    }
+    table.print();
+    println!(
+        "runs with a malformed request: {}, {wrong} differ",
+        runs.len()
+    );
+    println!(
+        "cases: {}, seed: {}, differences: {differences}",
+        o.cases, o.seed
+    );
+    Ok(differences == 0)
+}
+
+/// The listing program on the streams of the cases that ask for a check, and on inputs at its limit; one run each.
+fn compare_listing(o: &Options, path: &str) -> io::Result<bool> {
+    let mut inputs: Vec<Vec<u8>> = vec![vec![], vec![0; 65_536], vec![0; 65_537], vec![0; 70_000]];
+    let cases = (0..).map(|index| case(o.seed, index).request);
+    let streams = cases.filter(|request| request.function == CHECK);
+    inputs.extend(
+        streams
+            .take(o.cases as usize)
+            .map(|request| request.strings[0].clone()),
+    );
+    let mut accepted = 0;
+    let mut differences = 0;
+    for input in &inputs {
+        let want = listing(input);
+        accepted += u64::from(!want.starts_with("refused"));
+        let got = ask(o, path, input.clone())?.concat();
+        if got != want {
+            differences += 1;
+            if differences <= SHOWN {
+                println!("difference: input {}", hex(input));
+                println!("  expected {want:?}\n  listing  {got:?}");
+            }
+        }
+    }
+    let n = inputs.len();
+    println!("listings: {n}, accepted: {accepted}, differences: {differences}");
+    Ok(differences == 0)
+}
+
+/// Requests and expected lines as two files.
+fn to_files(o: &Options, requests: &str, expected: &str) -> io::Result<()> {
+    let mut table = Table::default();
+    let mut asked = BufWriter::new(File::create(requests)?);
+    let mut told = BufWriter::new(File::create(expected)?);
+    for index in 0..o.cases {
+        let (case, line) = made(o.seed, index);
+        asked.write_all(&case.request.encode())?;
+        writeln!(told, "{line}")?;
+        table.count(case.kind, &line);
+    }
+    asked.flush()?;
+    told.flush()?;
+    table.print();
+    println!("cases: {}, seed: {}", o.cases, o.seed);
+    Ok(())
+}
+
+fn own_check(o: &Options) -> bool {
+    let mut wrong = 0;
+    for tally in own::run(o.seed, o.cases) {
+        println!(
+            "{:<55} {:>8} made, {} wrong",
+            tally.name,
+            tally.made,
+            tally.wrong.len()
+        );
+        for what in tally.wrong.iter().take(5) {
+            println!("  {}", around(what, 0));
+        }
+        wrong += tally.wrong.len();
+    }
+    wrong == 0
+}
+
+fn run(o: &Options) -> io::Result<bool> {
+    if let Some(index) = o.show {
+        let (case, line) = made(o.seed, index);
+        println!("{}\n{}\n{line}", case.kind, hex(&case.request.encode()));
+        return Ok(true);
+    }
+    if o.own {
+        return Ok(own_check(o));
+    }
+    if let Some(path) = &o.listing {
+        return compare_listing(o, path);
+    }
+    match (&o.probe, &o.requests, &o.expected) {
+        (Some(probe), None, None) => compare(o, probe),
+        (None, Some(requests), Some(expected)) => to_files(o, requests, expected).map(|()| true),
+        _ => {
+            eprintln!("{USAGE}");
+            Ok(false)
+        }
+    }
+}
+
+fn main() -> ExitCode {
+    let o = match options() {
+        Ok(o) => o,
+        Err(what) => {
+            eprintln!("{what}\n{USAGE}");
+            return ExitCode::from(2);
+        }
+    };
+    match run(&o) {
+        Ok(true) => ExitCode::SUCCESS,
+        Ok(false) => ExitCode::from(1),
+        Err(what) => {
+            eprintln!("{what}");
+            ExitCode::from(2)
+        }
+    }
+}

@@ -1,0 +1,316 @@
+//! The second implementation held against itself: against what the generators know of their cases, and against other ways to the
+//! same answer.
+
+use crate::generate::maps::{self, Item, Model, M};
+use crate::generate::{case, packets, streams, writers, Case};
+use crate::reference::map::{map, Map, Part};
+use crate::reference::plate::Answer;
+use crate::reference::walker::Walker;
+use crate::reference::{book, locator, name, stream, write};
+use crate::request::{answer, hex, lent_room, read, Read, BUILD, WRITE_FLT, WRITE_MAP};
+use crate::rng::Rng;
+
+/// One kind of check: how often it was made and what went wrong first.
+pub struct Tally {
+    pub name: &'static str,
+    pub made: u64,
+    pub wrong: Vec<String>,
+}
+
+impl Tally {
+    fn new(name: &'static str) -> Self {
+        Tally {
+            name,
+            made: 0,
+            wrong: Vec::new(),
+        }
+    }
+
+    fn check(&mut self, good: bool, what: impl Fn() -> String) {
+        self.made += 1;
+        if !good {
+            self.wrong.push(what());
+        }
+    }
+}
+
+/// A line keeps a claim if it is the claim, or goes on behind it with a new token.
+fn keeps(line: &str, claim: &str) -> bool {
+    match line.strip_prefix(claim) {
+        Some(rest) => rest.is_empty() || rest.starts_with(' '),
+        None => false,
+    }
+}
+
+/// Claims, the format there and back, and rooms that a refusal leaves.
+fn claims(seed: u64, cases: u64) -> Vec<Tally> {
+    let mut claims = Tally::new("line is as the case was made");
+    let mut format = Tally::new("request read back from its bytes");
+    let mut rooms = Tally::new("refused: the room is as it was");
+    for index in 0..cases {
+        let Case {
+            kind,
+            request,
+            claim,
+        } = case(seed, index);
+        let line = answer(&request);
+        if let Some(claim) = claim {
+            claims.check(keeps(&line, &claim), || {
+                format!("{kind}, case {index}: claimed {claim}, got {line}")
+            });
+        }
+        let bytes = request.encode();
+        let same = match read(&bytes) {
+            Read::Whole(again, length) => again == request && length == bytes.len(),
+            _ => false,
+        };
+        format.check(same, || format!("{kind}, case {index}"));
+        let room = match request.function {
+            BUILD => Some(request.numbers[0]),
+            WRITE_FLT | WRITE_MAP => Some(request.numbers[1]),
+            _ => None,
+        };
+        if let (Some(room), true) = (room, line.starts_with("refused")) {
+            let kept = line.ends_with(&hex(&lent_room(room)));
+            rooms.check(kept, || format!("{kind}, case {index}: {line}"));
+        }
+    }
+    vec![claims, format, rooms]
+}
+
+fn at(bytes: &[u8], part: Option<Part>) -> Option<&[u8]> {
+    part.map(|p| &bytes[p.place as usize..(p.place + p.length) as usize])
+}
+
+/// 01, Map: alike, places aside, when all else agrees and the bytes at the places do (D22).
+pub fn alike(one: (&[u8], &Answer<Map>), two: (&[u8], &Answer<Map>)) -> bool {
+    let (Ok(a), Ok(b)) = (one.1, two.1) else {
+        return false;
+    };
+    a.numbers == b.numbers
+        && at(one.0, a.name) == at(two.0, b.name)
+        && a.tracks.len() == b.tracks.len()
+        && a.tracks.iter().zip(&b.tracks).all(|(s, t)| {
+            (s.id, s.kind, s.rate, s.lines, s.fields, s.version)
+                == (t.id, t.kind, t.rate, t.lines, t.fields, t.version)
+                && at(one.0, s.name) == at(two.0, t.name)
+                && at(one.0, s.binary) == at(two.0, t.binary)
+                && at(one.0, s.text) == at(two.0, t.text)
+        })
+}
+
+/// Maps with what is reserved struck out, or with an unknown item set in at each boundary, answer alike.
+fn twins(seed: u64, cases: u64) -> Vec<Tally> {
+    let mut struck = Tally::new("struck map answers alike");
+    let mut set_in = Tally::new("unknown item set in answers alike");
+    for index in 0..cases {
+        let mut rng = Rng::new(seed ^ 0x7731, index);
+        let model = maps::valid(&mut rng, true);
+        let (whole, less) = (model.bytes(), model.struck().bytes());
+        let same = alike((&whole, &map(&whole, 0)), (&less, &map(&less, 0)));
+        struck.check(same, || format!("twin {index}: {}", hex(&whole)));
+        let more = with_unknown(&mut rng, &model).bytes();
+        let same = alike((&whole, &map(&whole, 0)), (&more, &map(&more, 0)));
+        set_in.check(same, || format!("twin {index}: {}", hex(&whole)));
+    }
+    vec![struck, set_in]
+}
+
+/// An unknown item at any one boundary.
+fn with_unknown(rng: &mut Rng, model: &Model) -> Model {
+    let mut model = model.clone();
+    let n = rng.below(20);
+    let item = Item::new(0x7E, &rng.bytes(n));
+    let i = rng.below(model.tracks.len() + 1);
+    let into = match model.tracks.get_mut(i) {
+        Some(track) => &mut track.items,
+        None => &mut model.material,
+    };
+    let at = rng.below(into.len() + 1);
+    into.insert(at, item);
+    model
+}
+
+/// What a writer wrote is read back as it was given.
+fn round_trips(seed: u64, cases: u64) -> Vec<Tally> {
+    let mut maps = Tally::new("written map read back");
+    let mut flts = Tally::new("written FLT read back");
+    for index in 0..cases {
+        let mut rng = Rng::new(seed ^ 0x0E0D, index);
+        let (input, _) = writers::good(&mut rng);
+        let (material, tracks) = input.words();
+        let mut room = lent_room(60_000);
+        let place = rng.below(100) as u64;
+        let length = write::write_map(&mut room, place, &input.text, &material, &tracks);
+        let back = map(&room, place);
+        let packet = &room[place as usize..];
+        let good = length.is_ok()
+            && back
+                .as_ref()
+                .is_ok_and(|back| as_given(&input, packet, back));
+        maps.check(good, || format!("map {index}: {length:?} {back:?}"));
+
+        let offsets: Vec<u64> = (0..rng.below(30))
+            .map(|_| u64::from(rng.edge32()))
+            .collect();
+        let step = u64::from(rng.edge32().max(1));
+        let length = write::write_flt(&mut room, place, step, &offsets);
+        let all = (0..=offsets.len()).all(|i| {
+            let found = locator::position(&room, place, i as u64 * step);
+            match offsets.get(i) {
+                Some(offset) => found == Ok(1_024 * offset),
+                None => found.is_err_and(|r| r.number == 16),
+            }
+        });
+        flts.check(length.is_ok() && all, || format!("FLT {index}"));
+    }
+    vec![maps, flts]
+}
+
+/// The map read back against the writer's input.
+fn as_given(input: &writers::Input, packet: &[u8], back: &Map) -> bool {
+    let text = |slot: &[u64; 3]| {
+        (slot[0] == 1).then(|| {
+            let mut text = input.text[slot[1] as usize..(slot[1] + slot[2]) as usize].to_vec();
+            text.push(0);
+            text
+        })
+    };
+    let number = |slot: &[u64; 3]| (slot[0] == 1).then_some(slot[1]);
+    let bytes = |part: Option<Part>| at(packet, part).map(<[u8]>::to_vec);
+    bytes(back.name) == text(&input.material[0])
+        && (0..5).all(|i| back.numbers[i].map(u64::from) == number(&input.material[i + 1]))
+        && back.tracks.len() == input.tracks.len()
+        && back
+            .tracks
+            .iter()
+            .zip(&input.tracks)
+            .all(|(track, (kind, id, slots))| {
+                let code = |code: Option<i32>| code.map(|code| i64::from(code) as u64);
+                let binary = (slots[1][0] == 1).then(|| {
+                    let from = slots[1][1] as usize;
+                    input.text[from..from + 8].to_vec()
+                });
+                u64::from(track.kind) == *kind
+                    && u64::from(track.id) == *id
+                    && bytes(track.name) == text(&slots[0])
+                    && bytes(track.binary) == binary
+                    && track.version.map(u64::from) == number(&slots[2])
+                    && bytes(track.text) == text(&slots[3])
+                    && code(track.rate) == number(&slots[4])
+                    && code(track.lines) == number(&slots[5])
+                    && code(track.fields) == number(&slots[6])
+            })
+}
+
+/// Seek, look-up in the built book, the walker and the check tell of the same packets.
+fn streams_agree(seed: u64, cases: u64) -> Vec<Tally> {
+    let mut seeks = Tally::new("seek is look-up in the built book");
+    let mut walks = Tally::new("walker takes as many steps as the check counts");
+    let mut refusals = Tally::new("check, seek and builder refuse alike");
+    for index in 0..cases {
+        let mut rng = Rng::new(seed ^ 0x5EEC, index);
+        let bytes = if rng.chance(1, 3) {
+            streams::damaged_bytes(&mut rng)
+        } else {
+            streams::good(&mut rng).bytes()
+        };
+        let mut room = vec![0; 65_536];
+        let built = book::build(&bytes, &mut room);
+        let checked = stream::check(&bytes);
+        match (checked, built) {
+            (Ok(count), Ok(records)) => {
+                let lent = &room[..16 * records as usize];
+                for track in [0, 1, 2, 3, 17, 62, 63, 64] {
+                    for field in [0, 1, 2, 3, 4, 5, 0xFFFF_FFFF, 0x1_0000_0000] {
+                        let one = stream::seek(&bytes, track, field);
+                        let two = book::lookup(lent, track, field);
+                        seeks.check(one == two, || format!("stream {index}: {one:?} {two:?}"));
+                    }
+                }
+                let mut walker = Walker::new(&bytes);
+                let mut steps = 0;
+                while walker.step().is_ok() {
+                    steps += 1;
+                }
+                let whole = steps == count && walker.place == bytes.len() as u64;
+                walks.check(whole, || format!("stream {index}: {steps} {count}"));
+            }
+            (Err(one), Err(two)) => {
+                let three = stream::seek(&bytes, 0, 0);
+                let same = one == two && three == Err(one);
+                refusals.check(same, || {
+                    format!("stream {index}: {one:?} {two:?} {three:?}")
+                });
+            }
+            (one, two) => refusals.check(false, || format!("stream {index}: {one:?} {two:?}")),
+        }
+    }
+    vec![seeks, walks, refusals]
+}
+
+/// A name by ID is the record's name; of a map with itself it is the closing one's.
+fn names_agree(seed: u64, cases: u64) -> Vec<Tally> {
+    let mut names = Tally::new("name is the record's name");
+    for index in 0..cases {
+        let mut rng = Rng::new(seed ^ 0x4A4E, index);
+        let bytes = maps::valid(&mut rng, true).bytes();
+        let read = map(&bytes, 0).expect("the model is valid");
+        for id in 0..66 {
+            let track = read.tracks.iter().find(|track| u64::from(track.id) == id);
+            let listed = track.and_then(|track| track.name);
+            let found = name::name(&bytes, 0, id);
+            let two = name::name_of_two(&M, &bytes, id);
+            let good = match (listed, found) {
+                (Some(part), Ok(bare)) => {
+                    bare.place == part.place
+                        && bare.length + 1 == part.length
+                        && two == Ok(name::Of::Closing(bare))
+                }
+                (None, Err(refusal)) => {
+                    let in_m = id == 1;
+                    (refusal.number, refusal.place) == (16, 0)
+                        && matches!(two, Ok(name::Of::Opening(_))) == in_m
+                        && two.is_err() != in_m
+                }
+                _ => false,
+            };
+            names.check(good, || format!("map {index}, ID {id}"));
+        }
+    }
+    vec![names]
+}
+
+/// Each byte of M damaged in each way: the packet's reader and the check of a stream that begins with it refuse alike.
+fn damaged_bench() -> Vec<Tally> {
+    let mut same = Tally::new("check refuses a damaged first map as the reader does");
+    let rest = [packets::packet(0xFD, &[]), packets::packet(0xFB, &[])].concat();
+    for i in 0..M.len() {
+        for value in 0..=255 {
+            let mut bytes = M.to_vec();
+            bytes[i] = value;
+            bytes.extend(&rest);
+            let (one, two) = (map(&bytes, 0), stream::check(&bytes));
+            let good = match (&one, two) {
+                (Ok(_), Ok(count)) => count == 3,
+                // a length that takes in the UMF or the EOS leaves the stream without it
+                (Ok(_), Err(r)) => i == 9 && matches!(r.number, 1 | 2 | 18 | 21),
+                (Err(r), Err(s)) => *r == s || (r.number, s.number) == (6, 17),
+                _ => false,
+            };
+            same.check(good, || format!("byte {i} is {value}: {one:?} {two:?}"));
+        }
+    }
+    vec![same]
+}
+
+pub fn run(seed: u64, cases: u64) -> Vec<Tally> {
+    let part = cases / 10 + 1;
+    let mut all = claims(seed, cases);
+    all.extend(twins(seed, part));
+    all.extend(round_trips(seed, part));
+    all.extend(streams_agree(seed, part));
+    all.extend(names_agree(seed, part / 10 + 1));
+    all.extend(damaged_bench());
+    all
+}

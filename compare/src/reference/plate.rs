@@ -1,0 +1,36 @@
+//! 01, The refusal plate: every refusal is a number and a place.
+
+#[derive(Clone, Copy, PartialEq, Eq, Debug)]
+pub struct Refusal {
+    pub number: u8,
+    pub place: u64,
+}
+
+pub type Answer<T> = Result<T, Refusal>;
+
+pub fn refuse<T>(number: u8, place: u64) -> Answer<T> {
+    Err(Refusal { number, place })
+}
+
+/// Table 5 as 01 lists it: 3, 4, 7 to 18, 20 to 26.
+pub fn known_type(kind: u64) -> bool {
+    matches!(kind, 3 | 4 | 7..=18 | 20..=26)
+}
+
+/// 01, Map, "Text": one byte at least, 00 last and nowhere else, none over 7F.
+pub fn text_ok(text: &[u8]) -> bool {
+    match text.split_last() {
+        None => false,
+        Some((last, body)) => *last == 0 && body.iter().all(|b| (0x01..=0x7F).contains(b)),
+    }
+}
+
+/// Most significant byte first (clauses 6, 7.1.2.2, 7.4.2.1).
+pub fn most_first(bytes: &[u8]) -> u64 {
+    bytes.iter().fold(0, |n, b| n << 8 | u64::from(*b))
+}
+
+/// Least significant byte first (clause 7.2.2; 01, seek book).
+pub fn least_first(bytes: &[u8]) -> u64 {
+    bytes.iter().rev().fold(0, |n, b| n << 8 | u64::from(*b))
+}

@@ -1,0 +1,114 @@
+//! 01, Stream, seek, book: the check of a whole stream, and seek.
+
+use super::header::{header, EOS, FLT, MAP, MEDIA, UMF};
+use super::locator::table_of;
+use super::map::map_of;
+use super::media::{preamble_of, Preamble};
+use super::plate::{known_type, refuse, Answer, Refusal};
+
+/// One packet of a checked stream.
+#[derive(Clone, Copy, PartialEq, Eq, Debug)]
+pub struct Piece {
+    pub offset: u64,
+    pub kind: u8,
+    pub length: u64,
+    /// The preamble of a media packet.
+    pub media: Option<Preamble>,
+}
+
+/// A check adds the packet's offset to places inside a packet.
+fn inside<T>(answer: Answer<T>, offset: u64) -> Answer<T> {
+    answer.map_err(|r| Refusal {
+        number: r.number,
+        place: r.place + offset,
+    })
+}
+
+/// The packets of a stream, if the check passes. Order at one packet:
+/// header faults, 17, content faults, 19, 20, 22, 18, 21.
+pub fn packets(bytes: &[u8]) -> Answer<Vec<Piece>> {
+    let total = bytes.len() as u64;
+    let mut pieces: Vec<Piece> = Vec::new();
+    let mut listed: Vec<(u8, u8)> = Vec::new(); // ID and type of the latest map's listed tracks
+    let mut without_map = 0;
+    let mut flt_seen = false;
+    let mut flt_late = false; // the packet before was an FLT that did not directly follow the first map
+    let mut umf_seen = false;
+    let mut at = 0;
+    loop {
+        if at == total {
+            // with no bytes left: 17 at the start, 18 later, never 1
+            return refuse(if pieces.is_empty() { 17 } else { 18 }, at);
+        }
+        let head = header(bytes, at)?;
+        if pieces.is_empty() && head.kind != MAP {
+            return refuse(17, at);
+        }
+        let packet = &bytes[at as usize..(at + head.length) as usize];
+        let mut media = None;
+        match head.kind {
+            MAP => {
+                let map = inside(map_of(packet), at)?;
+                listed = map.tracks.iter().map(|t| (t.id, t.kind)).collect();
+            }
+            FLT => {
+                inside(table_of(packet), at)?;
+            }
+            // 8 lies inside the packet; 12 in media is the packet's offset already, added once (F8)
+            MEDIA => media = Some(inside(preamble_of(packet, 0), at)?),
+            _ => {}
+        }
+        if (head.kind == FLT && flt_seen) || (flt_late && head.kind != EOS) {
+            return refuse(19, at);
+        }
+        without_map = if head.kind == MAP { 0 } else { without_map + 1 };
+        if without_map == 100 {
+            return refuse(20, at);
+        }
+        if let Some(media) = media {
+            let known = known_type(u64::from(media.kind));
+            if known && !listed.contains(&(media.id, media.kind)) {
+                return refuse(22, at);
+            }
+        }
+        if head.kind == EOS && at + head.length < total {
+            return refuse(18, at);
+        }
+        if head.kind == EOS && !umf_seen {
+            return refuse(21, at);
+        }
+        flt_late = head.kind == FLT && pieces.len() != 1;
+        flt_seen |= head.kind == FLT;
+        umf_seen |= head.kind == UMF;
+        pieces.push(Piece {
+            offset: at,
+            kind: head.kind,
+            length: head.length,
+            media,
+        });
+        if head.kind == EOS {
+            return Ok(pieces);
+        }
+        at += head.length;
+    }
+}
+
+/// An accepted check answers with the number of packets, EOS included (D34).
+pub fn check(bytes: &[u8]) -> Answer<u64> {
+    Ok(packets(bytes)?.len() as u64)
+}
+
+/// The first packet in stream order that carries the field (D35).
+pub fn seek(bytes: &[u8], track: u64, field: u64) -> Answer<u64> {
+    for piece in packets(bytes)? {
+        if let Some(media) = piece.media {
+            if known_type(u64::from(media.kind))
+                && u64::from(media.id) == track
+                && media.field == field
+            {
+                return Ok(piece.offset);
+            }
+        }
+    }
+    refuse(16, 0)
+}

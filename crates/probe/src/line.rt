@@ -1,0 +1,84 @@
+// Tokens of a line, put into a lent buffer from a place on; each function gives the place behind what it put. What finds no room is left out.
+fn put(out: &mut [u8], at: usize, b: u8) -> usize {
+    if at < out.len() {
+        out[at] = b;
+        return at + 1;
+    }
+    at
+}
+
+pub fn say(out: &mut [u8], at: usize, text: &[u8]) -> usize {
+    let mut k = at;
+    let mut i: usize = 0;
+    while i < text.len() {
+        k = put(out, k, text[i]);
+        i += 1;
+    }
+    k
+}
+
+// A space and a number.
+pub fn figure(out: &mut [u8], at: usize, n: u64) -> usize {
+    let mut digits = [0u8; 20];
+    let m = io::decimal(n, &mut digits);
+    let k = say(out, at, b" ");
+    say(out, k, &digits[..m])
+}
+
+fn digit(x: u8) -> u8 {
+    let d = x % 16;
+    if d < 10 { 48 + d } else { 87 + d }
+}
+
+pub fn digits(out: &mut [u8], at: usize, bytes: &[u8]) -> usize {
+    let mut k = at;
+    let mut i: usize = 0;
+    while i < bytes.len() {
+        let b = bytes[i];
+        k = put(out, k, digit(b / 16));
+        k = put(out, k, digit(b));
+        i += 1;
+    }
+    k
+}
+
+// A space, `x` and two digits a byte.
+pub fn hex(out: &mut [u8], at: usize, bytes: &[u8]) -> usize {
+    let k = say(out, at, b" x");
+    digits(out, k, bytes)
+}
+
+// A float's bits; of what is no number, which the library gives nowhere, 0.
+fn bits_of(x: f64) -> u64 {
+    if x == x {
+        let n = f64::to_bits(x);
+        return n;
+    }
+    0
+}
+
+// A space and the bits of a float, in 16 digits.
+pub fn bits(out: &mut [u8], at: usize, x: f64) -> usize {
+    let mut text = [0u8; 16];
+    let m = io::hex(bits_of(x), 16, &mut text);
+    let k = say(out, at, b" ");
+    say(out, k, &text[..m])
+}
+
+pub fn refused(out: &mut [u8], at: usize, number: u8, place: usize) -> usize {
+    let k = say(out, at, b"refused");
+    let k = figure(out, k, number as u64);
+    figure(out, k, place as u64)
+}
+
+// A word and a number.
+pub fn one(out: &mut [u8], word: &[u8], n: usize) -> usize {
+    let k = say(out, 0, word);
+    figure(out, k, n as u64)
+}
+
+// A word and two numbers.
+pub fn two(out: &mut [u8], word: &[u8], n: usize, m: usize) -> usize {
+    let k = one(out, word, n);
+    figure(out, k, m as u64)
+}
