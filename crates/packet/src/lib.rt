@@ -1,8 +1,10 @@
 // The packet header at a position of lent bytes, and a packet of an asked type.
 use plate::Refusal;
 ghost use mathlib.Core.Path.{_≡_};
-ghost use Prim.Native.Nat.{_-_, _≤_};
+ghost use Prim.Native.Nat.{_+_, _-_, _≤_};
 ghost use lib.ListN.{length};
+ghost use lib.Dec.{eqb};
+ghost use Rattle.number.specs.Number.{be};
 ghost use Rattle.packet.specs.Packet.{sizedAt, headerAt, packetAt};
 
 // The types of packets; all others are reserved.
@@ -33,7 +35,7 @@ fn sized(s: &[u8], at: usize, left: usize) -> PacketAnswer
     ensures { λ r. ⌜ r ≡ sizedAt (now (s .entry)) at ⌝ }
 {
     let kind = s[at + 5];
-    let len = number::be_at(s, at + 6, 4);
+    let len = number::be4(s, at + 6);
     if len < 16 {
         return PacketAnswer::Refused(plate::refuse(plate::PACKET_LENGTH, at));
     }
@@ -46,6 +48,26 @@ fn sized(s: &[u8], at: usize, left: usize) -> PacketAnswer
     PacketAnswer::Whole(Packet { kind, len })
 }
 
+// The leader 00 00 00 00 01: four bytes at once, and the fifth.
+fn is_leader(s: &[u8], at: usize) -> bool
+    requires { ⌜ at + 5 ≤ length (now s) ⌝ }
+    ensures { λ r. ⌜ r ≡ eqb (be (now (s .entry)) at 5) 1 ⌝ }
+{
+    if number::le4(s, at) != 0 {
+        return false;
+    }
+    s[at + 4] == 1
+}
+
+// The trailer E1 E2: both bytes at once, the first as the least significant.
+fn is_trailer(s: &[u8], at: usize) -> bool
+    requires { ⌜ at + 2 ≤ length (now s) ⌝ }
+    ensures { λ r. ⌜ r ≡ eqb (be (now (s .entry)) at 2) 0xE1E2 ⌝ }
+{
+    let pair = number::wide(s[at]) + number::wide(s[at + 1]) * 0x100;
+    pair == 0xE2E1
+}
+
 // The packet whose header stands at a position: refusals 1 to 5.
 pub fn header(s: &[u8], at: usize) -> PacketAnswer
     ensures { λ r. ⌜ r ≡ headerAt (now (s .entry)) at ⌝ }
@@ -54,12 +76,10 @@ pub fn header(s: &[u8], at: usize) -> PacketAnswer
     if left < 16 {
         return PacketAnswer::Refused(plate::refuse(plate::FEW_BYTES, at));
     }
-    let leader = number::be_at(s, at, 5);
-    if leader != 1 {
+    if !is_leader(s, at) {
         return PacketAnswer::Refused(plate::refuse(plate::LEADER, at));
     }
-    let trailer = number::be_at(s, at + 14, 2);
-    if trailer != 0xE1E2 {
+    if !is_trailer(s, at + 14) {
         return PacketAnswer::Refused(plate::refuse(plate::TRAILER, at));
     }
     sized(s, at, left)
