@@ -1,15 +1,6 @@
 use borrow.Author.Needs.{needs}
 use Rattle.packet.proofs.header.Statement.{statement}
 use Rattle.packet.proofs.header.Tie as tie
-use Rattle.packet.proofs.header.Reads as reads
-use Rattle.packet.proofs.header.Lts as lts
-use Rattle.number.proofs.left.Reads as left-reads
-use Rattle.packet.proofs.is_leader.Reads as is-leader-reads
-use Rattle.packet.proofs.is_trailer.Reads as is-trailer-reads
-use Rattle.packet.proofs.sized.Reads as sized-reads
-use Rattle.plate.proofs.refuse.Reads as refuse-reads
-use borrow.Author.Needs.{needs}
-use native.Mathlib.Omega.{arith}
 use mathlib.Core.Path.{sym, _∙_}
 use Rattle.packet.proofs.Laws.{off, on}
 use borrow.Author.Tests.{le-ltb}
