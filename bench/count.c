@@ -1,5 +1,6 @@
-/* Runs one job once on a file: ./count JOB FILE, where JOB is a function of versions.h. It prints number, place and value, and how many bytes of stack
- * the call used: what lies below is painted before, and looked at after. The counter of instructions looks at the job's function alone. */
+/* Runs one job once on a file: ./count JOB FILE [stack], where JOB is a function of versions.h. It prints number, place and value and, with the word
+ * stack, how many bytes of stack the call used: what lies below is painted before, and looked at after, which the counter of instructions does not
+ * allow. That counter looks at the job's function alone. */
 #include <stdio.h>
 #include <stdlib.h>
 #include <string.h>
@@ -55,15 +56,15 @@ static int find(const char *job)
 
 int main(int argc, char **argv)
 {
-    const char *job = argc == 3 ? argv[1] : "";
+    const char *job = argc >= 3 ? argv[1] : "";
     struct reading r, made;
     u64 n, room;
     u8 *s, *book;
-    volatile u8 *top;
-    long depth;
-    int which;
-    if (argc != 3 || (s = load(argv[2], &n)) == NULL) {
-        fprintf(stderr, "usage: count JOB FILE\n");
+    volatile u8 *top = NULL;
+    long depth = 0;
+    int which, painted = argc == 4;
+    if (argc < 3 || argc > 4 || (s = load(argv[2], &n)) == NULL) {
+        fprintf(stderr, "usage: count JOB FILE [stack]\n");
         return 2;
     }
     /* a packet has 16 bytes at least, so a book is never longer than its stream */
@@ -76,7 +77,8 @@ int main(int argc, char **argv)
     if (which >= 6)
         made = c_build(book, room, s, n);
     /* a track and a field that are not there: the whole of stream and book is read */
-    top = paint();
+    if (painted)
+        top = paint();
     switch (which) {
     case 0: r = gxf_check(s, n); break;
     case 1: r = c_check(s, n); break;
@@ -88,7 +90,8 @@ int main(int argc, char **argv)
     case 7: r = c_lookup(book, 16 * made.value, 1, 4000000000); break;
     default: return 2;
     }
-    depth = used(top);
+    if (painted)
+        depth = used(top);
     printf("%llu %llu %llu %ld\n", (unsigned long long)r.number, (unsigned long long)r.place, (unsigned long long)r.value, depth);
     return 0;
 }

@@ -15,14 +15,15 @@ for cc in gcc clang; do
     gcc -std=gnu99 -O2 -Wall -Wextra -static "$top/bench/count.c" "$out/versions-$cc.o" "$top/target/staticlib/libmeasure.a" "$top/target/lib/liblumperki.a" -o "$out/count-$cc" || exit 2
 done
 
-# The instructions of one call. Library and C version must answer alike.
+# The instructions of one call.
 count() { # PROGRAM JOB FILE
     valgrind --tool=callgrind --toggle-collect="$2" --callgrind-out-file=/dev/null "$out/$1" "$2" "$3" 2>&1 >/dev/null | sed -n 's/.*Collected : //p'
 }
 
+# A line of the table. Library and C version must answer alike.
 row() { # JOB FILE UNITS LABEL
-    lib=$("$out/count-gcc" "gxf_$1" "$2")
-    ref=$("$out/count-gcc" "c_$1" "$2")
+    lib=$("$out/count-gcc" "gxf_$1" "$2" stack)
+    ref=$("$out/count-gcc" "c_$1" "$2" stack)
     [ "${lib% *}" = "${ref% *}" ] || die "$1: the library says ${lib% *}, the C version ${ref% *}"
     a=$(count count-gcc "gxf_$1" "$2")
     b=$(count count-gcc "c_$1" "$2")
