@@ -9,7 +9,7 @@ use lib.ListN.{length, getD, take, drop, length-append}
 use lib.Seq.{getD-drop, getD-take, getD-at, drop-append-seam, append-snoc}
 use mir.Val.{Fits}
 use mir.Syntax.{w8}
-use Rattle.number.specs.Number.{be, le, beBytes, leBytes}
+use Rattle.number.specs.Number.{be, le, turnedOver, beBytes, leBytes}
 
 -- what a slice's rule gives of its bytes
 abbrev pub Bytes : List ℕ → Type 0
@@ -73,6 +73,34 @@ pub le-take : (m : ℕ) (s : List ℕ) (at n : ℕ) → at + n ≤ m → le (tak
 unfolding le
 le-take m s at zero h = refl
 le-take m s at (suc n) h = rw (le-take m s (at + 1) n (omega arith), getD-take m s at 0 (omega arith))
+
+-- four bytes, read one by one
+pub le-four : (s : List ℕ) (at a b c d : ℕ) → a ≡ getD s at 0 → b ≡ getD s (at + 1) 0 → c ≡ getD s (at + 2) 0 → d ≡ getD s (at + 3) 0
+    → a + b * 0x100 + c * 0x10000 + d * 0x1000000 ≡ le s at 4
+unfolding le
+le-four s at a b c d p q r t =
+    let e : at + 1 + 1 ≡ at + 2 = omega arith in
+    let f : at + 2 + 1 ≡ at + 3 = omega arith in
+    rw e (rw f (omega arith))
+
+pub be-four : (s : List ℕ) (at a b c d : ℕ) → a ≡ getD s at 0 → b ≡ getD s (at + 1) 0 → c ≡ getD s (at + 2) 0 → d ≡ getD s (at + 3) 0
+    → ((a * 0x100 + b) * 0x100 + c) * 0x100 + d ≡ be s at 4
+unfolding be
+be-four s at a b c d p q r t = rw add-zero (omega arith)
+
+-- a word of four bytes, turned over
+pub turned-four : (a b c d : ℕ) → a < 256 → b < 256 → c < 256 → d < 256
+    → turnedOver (a + b * 0x100 + c * 0x10000 + d * 0x1000000) ≡ ((a * 0x100 + b) * 0x100 + c) * 0x100 + d
+unfolding turnedOver
+turned-four a b c d p q r t =
+    let x : ℕ = a + b * 0x100 + c * 0x10000 + d * 0x1000000 in
+    let e : x % 0x100 ≡ a = omega arith in
+    let f : x / 0x100 ≡ b + c * 0x100 + d * 0x10000 = omega arith in
+    let g : x / 0x10000 ≡ c + d * 0x100 = omega arith in
+    let h : x / 0x1000000 ≡ d = omega arith in
+    let i : (b + c * 0x100 + d * 0x10000) % 0x100 ≡ b = omega arith in
+    let j : (c + d * 0x100) % 0x100 ≡ c = omega arith in
+    rw e (rw f (rw g (rw h (rw i (rw j (omega arith))))))
 
 -- a number's bytes are as many as asked
 pub length-beBytes : (n v : ℕ) → length (beBytes n v) ≡ n

@@ -12,6 +12,10 @@ use Rattle.number.proofs.be_at.Kinds as be-at-kinds
 use Rattle.number.proofs.be_at.Reads as be-at-reads
 use Rattle.number.proofs.le_at.Kinds as le-at-kinds
 use Rattle.number.proofs.le_at.Reads as le-at-reads
+use Rattle.number.proofs.le4.Kinds as le4-kinds
+use Rattle.number.proofs.le4.Reads as le4-reads
+use Rattle.number.proofs.be4.Kinds as be4-kinds
+use Rattle.number.proofs.be4.Reads as be4-reads
 use Rattle.number.proofs.put_be.Kinds as put-be-kinds
 use Rattle.number.proofs.put_be.Reads as put-be-reads
 use Rattle.number.proofs.put_le.Kinds as put-le-kinds
@@ -28,6 +32,12 @@ be-at-once κs a x y s t p q = p ∙ sym q
 
 pub le-at-once : OneAnswer 1 le-at-kinds.ps le-at-kinds.r le-at-reads.Post
 le-at-once κs a x y s t p q = p ∙ sym q
+
+pub le4-once : OneAnswer 1 le4-kinds.ps le4-kinds.r le4-reads.Post
+le4-once κs a x y s t p q = p ∙ sym q
+
+pub be4-once : OneAnswer 1 be4-kinds.ps be4-kinds.r be4-reads.Post
+be4-once κs a x y s t p q = p ∙ sym q
 
 pub put-be-once : (κs : Lfts 1) (a : Dens κs put-be-kinds.ps) (x y : resT put-be-kinds.r κs .Denot) (s t : AtExit (endedOf 1 put-be-kinds.ps put-be-kinds.r) κs)
     → put-be-reads.Post κs a x s → put-be-reads.Post κs a y t → s .0 .now ≡ t .0 .now

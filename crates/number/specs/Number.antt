@@ -13,6 +13,10 @@ unfoldable pub le : List ℕ → ℕ → ℕ → ℕ
 le s at zero = 0
 le s at (suc n) = getD s at 0 + le s (at + 1) n * 256
 
+-- a number of four bytes, its bytes in the other order
+unfoldable pub turnedOver : ℕ → ℕ
+turnedOver x = x % 0x100 * 0x1000000 + x / 0x100 % 0x100 * 0x10000 + x / 0x10000 % 0x100 * 0x100 + x / 0x1000000
+
 -- the n least significant bytes of a number, the most significant of them first
 unfoldable pub beBytes : ℕ → ℕ → List ℕ
 beBytes zero v = []

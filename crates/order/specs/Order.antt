@@ -48,10 +48,13 @@ after p role =
 unfoldable pub ending : Progress → ℕ → Bool → Step
 ending p at more = pick more (Refused (refusal 18 at)) (pick (p .umf) (Ended (p .count + 1)) (Refused (refusal 21 at)))
 
--- a piece at a position, with the type that the latest map lists under its ID, and whether bytes follow it
+-- a packet at a position, of a type and a media type, with the type that the latest map lists under its ID, and whether bytes follow it
+abbrev pub stepAs : Progress → ℕ → ℕ → ℕ → ℕ → Bool → Step
+stepAs p role kind at listed more =
+    pick (misplaced (p .due) (p .flt) role) (Refused (refusal 19 at))
+    (pick (overdue (p .since) role) (Refused (refusal 20 at))
+    (pick (unmapped role kind listed) (Refused (refusal 22 at))
+    (pick (eqb role 0xFB) (ending p at more) (Next (after p role)))))
+
 unfoldable pub stepOf : Progress → Piece → ℕ → ℕ → Bool → Step
-stepOf p x at listed more =
-    pick (misplaced (p .due) (p .flt) (x .role)) (Refused (refusal 19 at))
-    (pick (overdue (p .since) (x .role)) (Refused (refusal 20 at))
-    (pick (unmapped (x .role) (x .kind) listed) (Refused (refusal 22 at))
-    (pick (eqb (x .role) 0xFB) (ending p at more) (Next (after p (x .role))))))
+stepOf p x at listed more = stepAs p (x .role) (x .kind) at listed more

@@ -5,7 +5,7 @@ use plate::Refusal;
 ghost use mathlib.Core.Path.{_≡_};
 ghost use Prim.Native.Nat.{_+_, _<_, _^_};
 ghost use Rattle.plate.specs.Plate.{refusal};
-ghost use Rattle.order.specs.Order.{started, misplaced, overdue, unmapped, eitherRole, falls, after, ending, stepOf};
+ghost use Rattle.order.specs.Order.{started, misplaced, overdue, unmapped, eitherRole, falls, after, ending, stepAs, stepOf};
 
 // What has passed: packets in all, packets since the latest map, whether an FLT was seen, whether EOS must follow it, whether a UMF was seen.
 pub struct Progress {
@@ -137,23 +137,34 @@ fn at_end(p: Progress, at: usize, more: bool) -> Step
     refused(plate::NO_UMF, at)
 }
 
-// One piece at a position, with the type that the latest map lists under its ID, and whether bytes follow it: 19, 20, 22, 18, 21.
-pub fn take_step(p: Progress, x: Piece, at: usize, listed: u8, more: bool) -> Step
+// A packet of a type and, where it is media, of a media type.
+fn step_as(p: Progress, role: u8, kind: u8, at: usize, listed: u8, more: bool) -> Step
     requires { ⌜ (p .count + 1 < 2 ^ 64) × (p .since + 1 < 2 ^ 64) ⌝ }
-    ensures { λ r. ⌜ r ≡ stepOf p x at listed more ⌝ }
+    ensures { λ r. ⌜ r ≡ stepAs p role kind at listed more ⌝ }
 {
-    let role = x.role;
     if is_misplaced(p.due, p.flt, role) {
         return refused(plate::LOCATOR_PLACE, at);
     }
     if is_overdue(p.since, role) {
         return refused(plate::MAP_OVERDUE, at);
     }
-    if is_unmapped(role, x.kind, listed) {
+    if is_unmapped(role, kind, listed) {
         return refused(plate::UNMAPPED, at);
     }
     if role == packet::EOS {
         return at_end(p, at, more);
     }
     Step::Next(passed(p, role))
+}
+
+// One piece at a position, with the type that the latest map lists under its ID, and whether bytes follow it: 19, 20, 22, 18, 21.
+// Most packets are media: with their type as a constant the compiler leaves out what is only asked of others.
+pub fn take_step(p: Progress, x: Piece, at: usize, listed: u8, more: bool) -> Step
+    requires { ⌜ (p .count + 1 < 2 ^ 64) × (p .since + 1 < 2 ^ 64) ⌝ }
+    ensures { λ r. ⌜ r ≡ stepOf p x at listed more ⌝ }
+{
+    if x.role == packet::MEDIA {
+        return step_as(p, packet::MEDIA, x.kind, at, listed, more);
+    }
+    step_as(p, x.role, x.kind, at, listed, more)
 }

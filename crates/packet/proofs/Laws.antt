@@ -1,14 +1,16 @@
 -- What a whole packet's header tells, and what decides it.
-use Prim.Native.Nat.{ℕ, _+_, _-_, _≤_, _%_}
-use mathlib.Core.Path.{_≡_, refl}
-use mathlib.Core.Bool.{Bool, true, false}
+use Prim.Native.Nat.{ℕ, _+_, _-_, _*_, _<_, _≤_, _%_}
+use mathlib.Core.Path.{_≡_, refl, sym, _∙_, ap}
+use mathlib.Core.Bool.{Bool, true, false, not}
 use mathlib.Core.List.{List}
 use native.Mathlib.Omega.{arith}
-use borrow.Author.Tests.{ltb-false, eqb-true, le-ltb, eq-eqb}
+use native.Mathlib.Nat.{add-zero}
+use borrow.Author.Tests.{ltb-false, eqb-true, eqb-false, le-ltb, eq-eqb, ne-eqb}
 use lib.ListN.{length, getD}
 use lib.Dec.{ltb, eqb}
 use Rattle.plate.specs.Choice.{pick}
-use Rattle.number.specs.Number.{be}
+use Rattle.number.specs.Number.{be, le}
+use Rattle.number.proofs.Laws.{le-four, be-four}
 use Rattle.packet.specs.Packet.{headerAt, sizedAt, packetAt, ifType, refused}
 use Rattle.packet.specs.declared.Packet.{Packet}
 use Rattle.packet.specs.declared.PacketAnswer.{PacketAnswer}
@@ -69,3 +71,47 @@ pub accepts : (s : List ℕ) (at n : ℕ) → be s at 5 ≡ 1 → be s (at + 14)
 unfolding headerAt sizedAt
 accepts s at n l t e a b d =
     rw e (simp (le-ltb (length s - at) 16 (omega arith), eq-eqb _ _ l, eq-eqb _ _ t, le-ltb n 16 a, eq-eqb _ _ b, le-ltb (length s - at) n d))
+
+-- two tests for the same thing
+alike : (x n y m : ℕ) → (x ≡ n → y ≡ m) → (y ≡ m → x ≡ n) → eqb x n ≡ eqb y m
+alike x n y m f g = go (eqb x n) refl
+  where
+    go : (b : Bool) → eqb x n ≡ b → eqb x n ≡ eqb y m
+    go true e = e ∙ sym (eq-eqb y m (f (eqb-true x n e)))
+    go false e = e ∙ sym (ne-eqb y m (λ q. eqb-false x n e (g q)))
+
+-- the leader, by four bytes in the other order and the fifth
+pub leads : (s : List ℕ) (at b : ℕ) → b ≡ getD s (at + 4) 0 → le s at 4 ≡ 0 → eqb b 1 ≡ eqb (be s at 5) 1
+unfolding be
+leads s at b p e =
+    let f = le-four s at _ _ _ _ refl refl refl refl in
+    let g = be-four s at _ _ _ _ refl refl refl refl in
+    let z : be s at 4 ≡ 0 = omega (arith, f, g) in
+    alike b 1 (be s at 5) 1 (λ q. omega arith) (λ q. omega arith)
+
+pub leads-not : (s : List ℕ) (at : ℕ) → (le s at 4 ≡ 0 → ⊥) → false ≡ eqb (be s at 5) 1
+unfolding be
+leads-not s at h =
+    let f = le-four s at _ _ _ _ refl refl refl refl in
+    let g = be-four s at _ _ _ _ refl refl refl refl in
+    sym (ne-eqb (be s at 5) 1 (λ q. h (omega (arith, f, g))))
+
+-- the trailer, by its two bytes in the other order
+pub trails : (s : List ℕ) (at a b : ℕ) → a ≡ getD s at 0 → b ≡ getD s (at + 1) 0 → a < 256 → b < 256 → eqb (a + b * 0x100) 0xE2E1 ≡ eqb (be s at 2) 0xE1E2
+unfolding be
+trails s at a b p q h k =
+    let z : be s at 2 ≡ a * 0x100 + b = rw add-zero (omega arith) in
+    let u : (a + b * 0x100) % 0x100 ≡ a = omega arith in
+    let v : (a * 0x100 + b) % 0x100 ≡ b = omega arith in
+    alike (a + b * 0x100) 0xE2E1 (be s at 2) 0xE1E2
+    (λ r. let d : a ≡ 0xE1 = sym u ∙ ap (λ (x : ℕ). x % 0x100) r in omega arith)
+    (λ r. let d : b ≡ 0xE2 = sym v ∙ ap (λ (x : ℕ). x % 0x100) (sym z ∙ r) in omega arith)
+
+-- what the test of the opposite tells
+pub off : (b : Bool) → not b ≡ true → b ≡ false
+off true e = sym e
+off false e = refl
+
+pub on : (b : Bool) → not b ≡ false → b ≡ true
+on true e = refl
+on false e = sym e

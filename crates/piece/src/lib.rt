@@ -7,6 +7,9 @@ use plate::Refusal;
 ghost use mathlib.Core.Path.{_≡_};
 ghost use Prim.Native.Nat.{_+_, _<_, _≤_, _^_};
 ghost use lib.ListN.{length};
+ghost use mathlib.Core.Bool.{true};
+ghost use Rattle.plate.specs.Choice.{pick};
+ghost use Rattle.plate.specs.Plate.{refusal};
 ghost use Rattle.piece.specs.Piece.{moved, opens, contentOf, pieceAt};
 
 // A packet's type and length, and of a media packet its media type, track ID and field number; of any other, zeros.
@@ -107,7 +110,18 @@ fn may_open(first: bool, role: u8) -> bool
     true
 }
 
-// The packet at a position of a stream: header faults, 17, content faults.
+// The first packet of a stream: 17, content faults.
+fn opening(p: &[u8], at: usize, role: u8) -> PieceAnswer
+    requires { ⌜ (16 ≤ length (now p)) × (at + length (now p) < 2 ^ 64) ⌝ }
+    ensures { λ x. ⌜ x ≡ pick (opens true role) (contentOf (now (p .entry)) at role) (PieceAnswer.Refused (refusal 17 at)) ⌝ }
+{
+    if may_open(true, role) {
+        return content(p, at, role);
+    }
+    PieceAnswer::Refused(plate::refuse(plate::NO_MAP_FIRST, at))
+}
+
+// The packet at a position of a stream: header faults, 17, content faults. Media packets are seen to here, so that the compiler need not call for them.
 pub fn piece_at(s: &[u8], at: usize, first: bool) -> PieceAnswer
     ensures { λ x. ⌜ x ≡ pieceAt (now (s .entry)) at first ⌝ }
 {
@@ -116,10 +130,13 @@ pub fn piece_at(s: &[u8], at: usize, first: bool) -> PieceAnswer
         PacketAnswer::Whole(w) => {
             let role = w.kind;
             let e = at + w.len;
-            if may_open(first, role) {
-                return content(&s[at..e], at, role);
+            if first {
+                return opening(&s[at..e], at, role);
             }
-            PieceAnswer::Refused(plate::refuse(plate::NO_MAP_FIRST, at))
+            if role == packet::MEDIA {
+                return media_content(&s[at..e], at);
+            }
+            content(&s[at..e], at, role)
         }
     }
 }

@@ -4,7 +4,7 @@ use Rattle.piece.proofs.piece_at.Tie as tie
 use native.Mathlib.Omega.{arith}
 use mathlib.Core.Path.{sym, _∙_}
 use native.Mathlib.Nat.{add-sub-cancel-left}
-use Rattle.piece.specs.Piece.{pieceAt}
+use Rattle.piece.specs.Piece.{opens, pieceAt}
 use Rattle.piece.proofs.Laws.{cut}
 
 header-requires : tie.Need-header-requires
@@ -19,8 +19,37 @@ enum-known-w c = search needs
 add-e : tie.Need-add-e
 add-e c = let k = cut _ _ _ (sym (c .before .before .before .before .header .ensures) ∙ c .before .before .w .given .1) in omega arith
 
-may-open-requires : tie.Need-may-open-requires
-may-open-requires c κs = search needs
+sub-opening : tie.Need-sub-opening
+sub-opening c = search needs
+
+part-opening-start : tie.Need-part-opening-start
+part-opening-start c = search needs
+
+part-opening-end : tie.Need-part-opening-end
+part-opening-end c = let k = cut _ _ _ (sym (c .before .before .before .before .before .header .ensures) ∙ c .before .before .before .w .given .1) in omega arith
+
+opening-requires : tie.Need-opening-requires
+opening-requires c κs = let k = cut _ _ _ (sym (c .before .before .before .before .before .before .header .ensures) ∙ c .before .before .before .before .w .given .1) in simp (add-sub-cancel-left, k .long) (omega arith)
+
+returns : tie.Need-returns
+unfolding pieceAt
+returns c = rw (sym (c .before .before .before .before .before .before .before .header .ensures) ∙ c .before .before .before .before .before .w .given .1, c .before .before .if1 .taken) (rw add-sub-cancel-left at (c .opening .ensures))
+
+sub-media-content : tie.Need-sub-media-content
+sub-media-content c = search needs
+
+part-media-content-start : tie.Need-part-media-content-start
+part-media-content-start c = search needs
+
+part-media-content-end : tie.Need-part-media-content-end
+part-media-content-end c = let k = cut _ _ _ (sym (c .before .before .before .before .before .before .header .ensures) ∙ c .before .before .before .before .w .given .1) in omega arith
+
+media-content-requires : tie.Need-media-content-requires
+media-content-requires c κs = let k = cut _ _ _ (sym (c .before .before .before .before .before .before .before .header .ensures) ∙ c .before .before .before .before .before .w .given .1) in simp (add-sub-cancel-left, k .long) (omega arith)
+
+returns-2 : tie.Need-returns-2
+unfolding pieceAt opens
+returns-2 c = rw (sym (c .before .before .before .before .before .before .before .before .header .ensures) ∙ c .before .before .before .before .before .before .w .given .1, c .before .before .before .if1 .left, c .before .before .if2 .taken) (rw add-sub-cancel-left at (c .media-content .ensures))
 
 sub-content : tie.Need-sub-content
 sub-content c = search needs
@@ -34,20 +63,13 @@ part-content-end c = let k = cut _ _ _ (sym (c .before .before .before .before .
 content-requires : tie.Need-content-requires
 content-requires c κs = let k = cut _ _ _ (sym (c .before .before .before .before .before .before .before .header .ensures) ∙ c .before .before .before .before .before .w .given .1) in simp (add-sub-cancel-left, k .long) (omega arith)
 
-returns : tie.Need-returns
-unfolding pieceAt
-returns c = rw (sym (c .before .before .before .before .before .before .before .before .header .ensures) ∙ c .before .before .before .before .before .before .w .given .1, sym (c .before .before .before .may-open .ensures) ∙ c .before .before .if1 .taken) (rw add-sub-cancel-left at (c .content .ensures))
-
-refuse-requires : tie.Need-refuse-requires
-refuse-requires c κs = search needs
-
-returns-2 : tie.Need-returns-2
-unfolding pieceAt
-returns-2 c = rw (sym (c .before .before .before .header .ensures) ∙ c .before .r .given .1)
-
 returns-3 : tie.Need-returns-3
 unfolding pieceAt
-returns-3 c = rw (sym (c .before .before .before .before .before .before .before .header .ensures) ∙ c .before .before .before .before .before .w .given .1, sym (c .before .before .may-open .ensures) ∙ c .before .if1 .left, c .refuse .ensures)
+returns-3 c = rw (sym (c .before .before .before .header .ensures) ∙ c .before .r .given .1)
+
+returns-4 : tie.Need-returns-4
+unfolding pieceAt opens
+returns-4 c = rw (sym (c .before .before .before .before .before .before .before .before .header .ensures) ∙ c .before .before .before .before .before .before .w .given .1, c .before .before .before .if1 .left) (rw add-sub-cancel-left at (c .content .ensures))
 
 pub piece-at-spec : {M : Type 1} → statement M
 piece-at-spec =
@@ -57,12 +79,19 @@ piece-at-spec =
     enum-known-r
     enum-known-w
     add-e
-    may-open-requires
+    sub-opening
+    part-opening-start
+    part-opening-end
+    opening-requires
+    returns
+    sub-media-content
+    part-media-content-start
+    part-media-content-end
+    media-content-requires
+    returns-2
     sub-content
     part-content-start
     part-content-end
     content-requires
-    returns
-    refuse-requires
-    returns-2
-    returns-3)
+    returns-3
+    returns-4)

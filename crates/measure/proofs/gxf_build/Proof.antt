@@ -1,0 +1,44 @@
+use borrow.Author.Needs.{needs}
+use Rattle.measure.proofs.gxf_build.Statement.{statement}
+use Rattle.measure.proofs.gxf_build.Tie as tie
+use mathlib.Core.Path.{sym, _∙_}
+use Rattle.measure.specs.Measure.{buildReading}
+
+build-requires : tie.Need-build-requires
+build-requires c κs = search needs
+
+enum-known-n : tie.Need-enum-known-n
+enum-known-n c = search needs
+
+enum-known-r : tie.Need-enum-known-r
+enum-known-r c = search needs
+
+cast-t10 : tie.Need-cast-t10
+cast-t10 c = search needs
+
+same-length : tie.Need-same-length
+same-length c = search needs
+
+returns : tie.Need-returns
+unfolding buildReading
+returns c = (simp (sym (c .before .before .before .before .before .build .ensures .0) ∙ c .before .n .given .1), c .before .before .before .before .before .build .ensures .1)
+
+same-length-2 : tie.Need-same-length-2
+same-length-2 c = search needs
+
+returns-2 : tie.Need-returns-2
+unfolding buildReading
+returns-2 c = (simp (sym (c .before .before .before .before .before .before .build .ensures .0) ∙ c .before .before .r .given .1), c .before .before .before .before .before .before .build .ensures .1)
+
+pub gxf-build-spec : {M : Type 1} → statement M
+gxf-build-spec =
+    tie.close
+    (tie.spec
+    build-requires
+    enum-known-n
+    enum-known-r
+    cast-t10
+    same-length
+    returns
+    same-length-2
+    returns-2)
