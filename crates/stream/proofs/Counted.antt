@@ -11,7 +11,7 @@ use Rattle.plate.specs.Plate.{refusal}
 use Rattle.piece.specs.Piece.{pieceAt}
 use Rattle.piece.specs.declared.PieceAnswer.{PieceAnswer}
 use Rattle.piece.specs.declared.PieceAnswer.the-variants as piece
-use Rattle.order.specs.Order.{started, misplaced, overdue, unmapped, after, ending, stepAs, stepOf}
+use Rattle.order.specs.Order.{started, misplaced, overdue, unmapped, after, ending, stepOf}
 use Rattle.order.specs.declared.Progress.{Progress}
 use Rattle.order.specs.declared.Step.the-variants as step
 use Rattle.stream.specs.Stream.{Packets, none, closed, runsOut, typesAfter, onPiece, packetsFrom, packets, onStep, judge, checkOf}
@@ -28,7 +28,7 @@ Counts s ps p n = judge (length s) p (ps .list) (ps .end) ≡ check.Packets n �
 module _ (s : List ℕ) (rest : List ℕ → ℕ → Packets) (next : (types : List ℕ) (at : ℕ) (q : Progress) (m : ℕ) → Counts s (rest types at) q m) where
   -- a packet and the rest
   piece-counts : (types : List ℕ) (at : ℕ) (p : Progress) (n : ℕ) (x : PieceAnswer) → Counts s (onPiece s at types rest x) p n
-  unfolding judge stepOf stepAs ending after
+  unfolding judge stepOf ending after
   piece-counts types at p n (piece.Refused r) e = no _ n e
   piece-counts types at p n (piece.Whole x) e =
       go (misplaced (p .due) (p .flt) (x .role)) (overdue (p .since) (x .role)) (unmapped (x .role) (x .kind) (getD (typesAfter s at x types) (x .track) 0)) (eqb (x .role) 0xFB)
