@@ -12,7 +12,7 @@ mkdir -p "$out"
 gcc -std=gnu99 -O2 -Wall -Wextra -c "$top/bench/versions.c" -o "$out/versions-gcc.o" || exit 2
 "$clang" -std=gnu99 -O3 -Wall -Wextra -c "$top/bench/versions.c" -o "$out/versions-clang.o" || exit 2
 for cc in gcc clang; do
-    gcc -std=gnu99 -O2 -Wall -Wextra -static "$top/bench/count.c" "$out/versions-$cc.o" "$top/target/staticlib/libmeasure.a" "$top/target/lib/liblumperki.a" -o "$out/count-$cc" || exit 2
+    gcc -std=gnu99 -O2 -Wall -Wextra -static "$top/bench/count.c" "$out/versions-$cc.o" "$top/target/staticlib/libmeasure.a" "$top/target/staticlib/libmeasure_book.a" "$top/target/lib/liblumperki.a" -o "$out/count-$cc" || exit 2
 done
 
 # The instructions of one call.

@@ -1,22 +1,13 @@
--- Any two outcomes that a contract of this crate allows are equal: the answer, and what the buffer holds.
-use mathlib.Core.Path.{_≡_, sym, _∙_}
-use contract.Lifetimes.{Lfts}
-use borrow.Fn.Kinds.{endedOf, resT, Dens}
-use denote.Triple.Clauses.{AtExit}
+-- Any two outcomes that a contract of this crate allows are equal.
+use mathlib.Core.Path.{sym, _∙_}
 use Rattle.plate.proofs.Outcome.{OneAnswer}
 use Rattle.measure.proofs.gxf_check.Kinds as check-kinds
 use Rattle.measure.proofs.gxf_check.Reads as check-reads
 use Rattle.measure.proofs.gxf_lookup.Kinds as lookup-kinds
 use Rattle.measure.proofs.gxf_lookup.Reads as lookup-reads
-use Rattle.measure.proofs.gxf_build.Kinds as build-kinds
-use Rattle.measure.proofs.gxf_build.Reads as build-reads
 
 pub gxf-check-once : OneAnswer 1 check-kinds.ps check-kinds.r check-reads.Post
 gxf-check-once κs a x y s t p q = p ∙ sym q
 
 pub gxf-lookup-once : OneAnswer 1 lookup-kinds.ps lookup-kinds.r lookup-reads.Post
 gxf-lookup-once κs a x y s t p q = p ∙ sym q
-
-pub gxf-build-once : (κs : Lfts 2) (a : Dens κs build-kinds.ps) (x y : resT build-kinds.r κs .Denot) (s t : AtExit (endedOf 2 build-kinds.ps build-kinds.r) κs)
-    → build-reads.Post κs a x s → build-reads.Post κs a y t → (x ≡ y) × (s .0 .now ≡ t .0 .now)
-gxf-build-once κs a x y s t p q = (p .0 ∙ sym (q .0), p .1 ∙ sym (q .1))

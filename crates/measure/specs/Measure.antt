@@ -4,8 +4,6 @@ use Rattle.stream.specs.declared.CheckAnswer.{CheckAnswer}
 use Rattle.stream.specs.declared.CheckAnswer.the-variants as check
 use Rattle.book.specs.declared.LookupAnswer.{LookupAnswer}
 use Rattle.book.specs.declared.LookupAnswer.the-variants as lookup
-use Rattle.book_builder.specs.declared.BuildAnswer.{BuildAnswer}
-use Rattle.book_builder.specs.declared.BuildAnswer.the-variants as build
 use Rattle.measure.specs.declared.Reading.{Reading}
 
 abbrev pub noValue : Refusal → Reading
@@ -18,7 +16,3 @@ checkReading (check.Refused r) = noValue r
 unfoldable pub lookupReading : LookupAnswer → Reading
 lookupReading (lookup.At o) = record { number = 0; place = 0; value = o }
 lookupReading (lookup.Refused r) = noValue r
-
-unfoldable pub buildReading : BuildAnswer → Reading
-buildReading (build.Records n) = record { number = 0; place = 0; value = n }
-buildReading (build.Refused r) = noValue r

@@ -1,12 +1,10 @@
-// Functions for C by which bench/ counts instructions: the check, and the seek book's building and look-up. They are not in the library for C.
+// Functions for C by which bench/ counts instructions: the check, and the look-up in a seek book. They are not in the library for C.
 use book::LookupAnswer;
-use book_builder::BuildAnswer;
 use stream::CheckAnswer;
 ghost use mathlib.Core.Path.{_≡_};
 ghost use Rattle.stream.specs.Stream.{checkOf};
 ghost use Rattle.book.specs.Book.{lookupOf};
-ghost use Rattle.book_builder.specs.BookBuilder.{buildAnswer, builtIn};
-ghost use Rattle.measure.specs.Measure.{checkReading, lookupReading, buildReading};
+ghost use Rattle.measure.specs.Measure.{checkReading, lookupReading};
 
 // A value with number 0 and place 0, or a number of the plate, its place, and 0.
 #[repr(C)]
@@ -53,29 +51,6 @@ pub extern "C" fn gxf_lookup(b: &[u8], track: u64, field: u64) -> Reading
             }
         }
         LookupAnswer::Refused(r) => {
-            Reading {
-                number: r.number as u64,
-                place: r.place as u64,
-                value: 0,
-            }
-        }
-    }
-}
-
-// The number of records of the book that was written.
-#[no_mangle]
-pub extern "C" fn gxf_build(out: &mut [u8], s: &[u8]) -> Reading
-    ensures { λ r. ⌜ (r ≡ buildReading (buildAnswer (now (out .entry)) (now (s .entry)))) × (now (out .exit) ≡ builtIn (now (out .entry)) (now (s .entry))) ⌝ }
-{
-    match book_builder::build(out, s) {
-        BuildAnswer::Records(n) => {
-            Reading {
-                number: 0,
-                place: 0,
-                value: n as u64,
-            }
-        }
-        BuildAnswer::Refused(r) => {
             Reading {
                 number: r.number as u64,
                 place: r.place as u64,

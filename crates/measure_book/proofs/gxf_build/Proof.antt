@@ -1,8 +1,8 @@
 use borrow.Author.Needs.{needs}
-use Rattle.measure.proofs.gxf_build.Statement.{statement}
-use Rattle.measure.proofs.gxf_build.Tie as tie
+use Rattle.measure_book.proofs.gxf_build.Statement.{statement}
+use Rattle.measure_book.proofs.gxf_build.Tie as tie
 use mathlib.Core.Path.{sym, _∙_}
-use Rattle.measure.specs.Measure.{buildReading}
+use Rattle.measure_book.specs.MeasureBook.{buildReading}
 
 build-requires : tie.Need-build-requires
 build-requires c κs = search needs

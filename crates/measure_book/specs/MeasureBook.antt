@@ -1,0 +1,8 @@
+-- What C sees of the answer that is counted: number 0, place 0 and the value; or a number of the plate, its place, and 0.
+use Rattle.book_builder.specs.declared.BuildAnswer.{BuildAnswer}
+use Rattle.book_builder.specs.declared.BuildAnswer.the-variants as build
+use Rattle.measure_book.specs.declared.Reading.{Reading}
+
+unfoldable pub buildReading : BuildAnswer → Reading
+buildReading (build.Records n) = record { number = 0; place = 0; value = n }
+buildReading (build.Refused r) = record { number = r .number; place = r .place; value = 0 }
