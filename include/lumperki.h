@@ -41,7 +41,8 @@ struct gxf_packet {
     uint64_t len;
 };
 
-/* A byte's offset in a stream. */
+/* A byte's offset in a stream: of gxf_seek, where a packet begins; of gxf_position, as the table states it, which need be no packet's first
+ * byte and may lie past the n bytes: hold it against n before reading there. */
 struct gxf_offset {
     uint64_t number;
     uint64_t place;
@@ -62,19 +63,22 @@ struct gxf_offset {
  */
 struct gxf_packet gxf_header(const uint8_t *s, size_t n, size_t at);
 
-/* The position in the stream for a distance, by the FLT packet that stands at position `at`: 1,024 times the entry at distance divided by the
- * table's fields per entry, rounded down. The distance counts in fields from the field of the first stored entry.
+/* The position in the stream for a distance, by the FLT packet that stands at position `at`: 1,024 times an entry, whose number is the distance
+ * divided by the table's fields per entry, rounded down. The distance counts in fields from the field of the first stored entry: for field N it
+ * is N less the material's first field less the fields per entry. A field before that has no distance; the stream's start serves it.
  * Refusals, tried in this order:
  *   1 to 5 as above and 6 no FLT packet, place `at`
- *   8 under 8 bytes of payload   14 count over 1,000   15 fields per entry 0   8 entries pass the payload, place 16
+ *   8 under 8 bytes of payload   14 count over 1,000   15 fields per entry 0   8 entries pass the payload,
+ *     place 16, counted from the packet's first byte
  *   16 the entry is at or past the count, place 0
  *
  *   struct gxf_offset o = gxf_position(s, n, 44, 39);
- *   if (o.number == 0) restore_from(o.offset);
+ *   if (o.number == 0 && o.offset < n) restore_from(o.offset);
  */
 struct gxf_offset gxf_position(const uint8_t *s, size_t n, size_t at, uint64_t distance);
 
-/* The offset of the first media packet that carries a field of a track, in a whole stream.
+/* The offset of the first media packet that carries a field of a track, in a whole stream: one of a media type of Table 5 whose ID is the track
+ * and whose media field number is the field.
  * Refusals: first those of the check of the stream (1 to 5, 7 to 12, 14, 15, 17 to 22), with their places in the stream; then
  *   16 no packet carries it, place 0; so also of a track over 63 or a field over 32 bits
  *

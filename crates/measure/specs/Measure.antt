@@ -1,4 +1,4 @@
--- What C sees of the answers that are counted: number 0, place 0 and the value; or a number of the plate, its place, and 0.
+-- What C sees of the answers whose instructions are counted (docs/DECISIONS.md, S24): number 0, place 0 and the value, packets or an offset; or a number of the plate, its place, and 0.
 use Rattle.plate.specs.declared.Refusal.{Refusal}
 use Rattle.stream.specs.declared.CheckAnswer.{CheckAnswer}
 use Rattle.stream.specs.declared.CheckAnswer.the-variants as check

@@ -22,14 +22,14 @@ misplaced due flt role = pick due (not (eqb role 0xFB)) (pick flt (eqb role 0xFC
 unfoldable pub overdue : ℕ → ℕ → Bool
 overdue since role = pick (eqb role 0xBC) false (leb 99 since)
 
--- 22: a media packet of known type has the type that the latest map lists under its ID
+-- 22: a media packet of known type has another type than the latest map lists under its ID
 unfoldable pub unmapped : ℕ → ℕ → ℕ → Bool
 unmapped role kind listed = pick (eqb role 0xBF) (pick (eqb kind listed) false (knownType kind)) false
 
 unfoldable pub eitherRole : Bool → ℕ → ℕ → Bool
 eitherRole flag role wanted = pick flag true (eqb role wanted)
 
--- the FLT that directly follows the first map is the second packet
+-- an FLT that is not the second packet does not directly follow the first map: only EOS may follow it
 unfoldable pub falls : ℕ → ℕ → Bool
 falls count role = pick (eqb role 0xFC) (not (eqb count 1)) false
 
@@ -48,7 +48,7 @@ after p role =
 unfoldable pub ending : Progress → ℕ → Bool → Step
 ending p at more = pick more (Refused (refusal 18 at)) (pick (p .umf) (Ended (p .count + 1)) (Refused (refusal 21 at)))
 
--- a packet at a position, of a type and a media type, with the type that the latest map lists under its ID, and whether bytes follow it
+-- a packet at a position, of a type and a media type, with the type that the latest map lists under its ID, and whether bytes follow it: 19, 20, 22, then 18 and 21
 abbrev pub stepAs : Progress → ℕ → ℕ → ℕ → ℕ → Bool → Step
 stepAs p role kind at listed more =
     pick (misplaced (p .due) (p .flt) role) (Refused (refusal 19 at))
@@ -56,5 +56,6 @@ stepAs p role kind at listed more =
     (pick (unmapped role kind listed) (Refused (refusal 22 at))
     (pick (eqb role 0xFB) (ending p at more) (Next (after p role)))))
 
+-- the same of a piece
 unfoldable pub stepOf : Progress → Piece → ℕ → ℕ → Bool → Step
 stepOf p x at listed more = stepAs p (x .role) (x .kind) at listed more

@@ -18,7 +18,7 @@ use Rattle.map.specs.Map.{part, listedIn, mapAt}
 use Rattle.map.specs.declared.MapAnswer.{MapAnswer}
 use Rattle.map.specs.declared.MapAnswer.the-variants as map
 
--- the records of the listed tracks of the map packet at a position, in map order
+-- the records of the listed tracks of the map packet at a position, in map order, by lengths alone: on a map that the reader accepts, its records
 abbrev pub recordsFrom : List ℕ → ℕ → PacketAnswer → List Track
 recordsFrom s at (packet.Refused r) = []
 recordsFrom s at (packet.Whole w) = each recordOf (listedIn (part at (at + w .len) s))
@@ -34,7 +34,7 @@ withRoom room (map.Says m) = pick (ltb room (m .count)) (map.Refused (refusal 13
 unfoldable pub answerFor : List ℕ → ℕ → ℕ → MapAnswer
 answerFor s at room = withRoom room (mapAt s at)
 
--- a record in which nothing is present: what the function by value gives where there is no such track. It is never written
+-- a record in which nothing is present: what fills the place of a track that is not there, within the code. It is never written, and `Filled` does not rest on it
 unfoldable pub blank : Track
 blank =
     record {
@@ -49,7 +49,7 @@ blank =
       mpeg = item.Absent;
     }
 
--- how many records an answer stands for
+-- how many records an answer stands for; this too is for the code alone
 unfoldable pub written : MapAnswer → ℕ
 written (map.Refused r) = 0
 written (map.Says m) = m .count

@@ -21,7 +21,7 @@ unfoldable pub placeOf : List ℕ → ℕ → ℕ → ℕ
 placeOf s at zero = at
 placeOf s at (suc n) = placeAfter (placeOf s at n) (headerAt s (placeOf s at n))
 
--- one was made of a stream and a place
+-- a walker was made of a stream and a place
 unfoldable pub Made : RefT (List ℕ) → ℕ → Walker → Type 0
 Made s at w = w ≡ record { stream = s; at = at }
 
@@ -31,13 +31,14 @@ Stepped w r v =
     (r ≡ headerAt (now (w .stream)) (w .at))
     × (v ≡ record { stream = w .stream; at = placeAfter (w .at) (headerAt (now (w .stream)) (w .at)) })
 
--- of n steps over a stream of some bytes, so many that the others change nothing: by then one was refused, as a packet has 16 bytes at least
+-- of n steps over a stream of some bytes, so many that the others change nothing: where some are left out one was refused, as a packet has 16 bytes at least.
+-- It is for the code alone
 unfoldable pub turnsOf : ℕ → ℕ → ℕ
 turnsOf len n = pick (ltb n (len / 16 + 1)) n (len / 16 + 1)
 
 abbrev pub stop : ℕ → PacketAnswer → Stop
 stop at a = record { at = at; answer = a }
 
--- that place, and what stands there
+-- the place after n steps, and what stands there
 unfoldable pub walkOf : List ℕ → ℕ → ℕ → Stop
 walkOf s at n = stop (placeOf s at n) (headerAt s (placeOf s at n))
