@@ -10,9 +10,8 @@ use lib.Seq.{getD-append-add, drop-append-seam}
 use borrow.Author.Tests.{lt-ltb, le-ltb}
 use Rattle.number.specs.Number.{le, leBytes}
 use Rattle.number.proofs.Laws.{le-drop, le-back}
-use Rattle.book.specs.Book.{recordBytes, bytesOf, slotAt, bookFrom, bookOf, lookupIn, lookupOf}
+use Rattle.book.specs.Book.{recordBytes, bytesOf, slotAt, holds, bookFrom, bookOf, lookupIn, lookupOf}
 use Rattle.book.specs.declared.Entry.{Entry}
-use Rattle.book.specs.declared.Slot.the-variants as slot
 
 -- a field number of 32 bits and an offset of 64
 pub record Fit (e : Entry) : Type 0 where
@@ -43,7 +42,7 @@ slot-after p s =
     let b : getD (p ++ s) (length p) 0 ≡ getD s 0 0 = rw add-zero at (getD-append-add p s 0 0) in
     rw (a, b, getD-append-add p s 1 0, getD-append-add p s 2 0, getD-append-add p s 3 0, le-after p s 4 4, le-after p s 8 8)
 
-slot-back : (e : Entry) (t : List ℕ) → Fit e → slotAt (recordBytes e ++ t) 0 ≡ slot.Holds e
+slot-back : (e : Entry) (t : List ℕ) → Fit e → slotAt (recordBytes e ++ t) 0 ≡ holds e
 unfolding slotAt recordBytes leBytes
 slot-back e t h =
     let a : le (recordBytes e ++ t) 4 4 ≡ e .field = le-back (0x47 ∷ 0x58 ∷ e .track ∷ e .kind ∷ []) 4 (e .field) (leBytes 8 (e .at) ++ t) (h .field) in

@@ -1,88 +1,178 @@
--- One pass over a lent book, a record at a time: what is left to do from a place on is the whole answer.
-use Prim.Native.Nat.{ℕ, zero, suc, _+_, _-_, _<_, _≤_}
+-- One pass over a lent book, a record at a time: what is left to do from record n on.
+use Prim.Native.Nat.{ℕ, zero, suc, _+_, _-_, _*_, _/_, _%_, _<_, _≤_}
 use mathlib.Core.Path.{_≡_, refl, sym, _∙_}
 use mathlib.Core.Bool.{Bool, true, false}
 use mathlib.Core.List.{List}
 use native.Mathlib.Omega.{arith}
-use lib.ListN.{length}
-use borrow.Author.Tests.{lt-ltb, le-ltb, ltb-false}
-use lib.Dec.{ltb}
+use lib.ListN.{length, getD}
+use borrow.Author.Tests.{lt-ltb, le-ltb, eq-eqb, ne-eqb, ltb-true, eqb-true, eqb-false}
+use lib.Dec.{eqb, ltb}
 use Rattle.plate.specs.Choice.{pick}
 use Rattle.plate.specs.Plate.{refusal}
-use Rattle.book.specs.Book.{Book, ends, onSlot, slotAt, bookFrom, bookOf, stands, judge, isOf, firstIn, orNotThere, ifGood, lookupOf, orFirst, firstHere}
+use Rattle.number.specs.Number.{le}
+use Rattle.number.proofs.Laws.{Bytes, le-four}
+use Rattle.media_type.specs.MediaType.{knownType}
+use Rattle.book.specs.Book.{Book, ends, onSlot, Slot, broken, holds, slotAt, bookFrom, bookOf, bookAt, risesAt, stands, soundHead, judge, Verdict, bad, good, verdictFrom, isOf, firstIn, orNotThere, Found, nothing, there, ifGood, lookupOf}
 use Rattle.book.specs.declared.Entry.{Entry}
-use Rattle.book.specs.declared.Slot.{Slot}
-use Rattle.book.specs.declared.Slot.the-variants as slot
-use Rattle.book.specs.declared.Found.{Found}
-use Rattle.book.specs.declared.Found.the-variants as found
 use Rattle.book.specs.declared.LookupAnswer.{LookupAnswer}
 use Rattle.book.specs.declared.LookupAnswer.the-variants as lookup
 
--- what the records from a place on come to, n of them passed, the latest of an offset, and a first one found or not
-abbrev comesTo : ℕ → ℕ → ℕ → ℕ → Found → Book → LookupAnswer
-comesTo track field n last first b = ifGood (judge n last (b .entries) (b .whole)) (orNotThere (orFirst first (firstIn track field (b .entries))))
-
-pub record Left (s : List ℕ) (track field at n last : ℕ) (first : Found) : Type 0 where
-  pub fuel : ℕ
-  pub enough : length s - at < fuel
-  pub same : lookupOf s track field ≡ comesTo track field n last first (bookFrom s fuel at)
-
-pub begin : (s : List ℕ) (track field : ℕ) → Left s track field 0 0 0 found.Nothing
-unfolding lookupOf bookOf
-begin s track field = record { fuel = suc (length s); enough = omega arith; same = refl }
-
-turn : (s : List ℕ) (f at : ℕ) → zero < f → at < length s → bookFrom s f at ≡ onSlot (bookFrom s (f - 1) (at + 16)) (slotAt s at)
+-- enough fuel is enough
+fuel : (s : List ℕ) (f g at : ℕ) → length s - at < f → length s - at < g → bookFrom s f at ≡ bookFrom s g at
 unfolding bookFrom
-turn s zero at h l = absurd (omega arith)
-turn s (suc f) at h l = let e : suc f - 1 ≡ f = omega arith in rw (e, lt-ltb at (length s) l)
-
-out : (s : List ℕ) (f at : ℕ) → zero < f → length s ≤ at → bookFrom s f at ≡ ends true
-unfolding bookFrom
-out s zero at h l = absurd (omega arith)
-out s (suc f) at h l = rw (le-ltb at (length s) l)
-
--- a first one so far, this entry, and what follows
-first-assoc : (first : Found) (b : Bool) (at : ℕ) (later : Found) → orFirst first (pick b (found.At at) later) ≡ orFirst (orFirst first (pick b (found.At at) found.Nothing)) later
-first-assoc (found.At o) b at later = refl
-first-assoc found.Nothing true at later = refl
-first-assoc found.Nothing false at later = refl
-
-first-alone : (first : Found) → orFirst first found.Nothing ≡ first
-first-alone (found.At o) = refl
-first-alone found.Nothing = refl
-
--- a record is 16 bytes in the book
-pub held : (s : List ℕ) (at : ℕ) (e : Entry) → slotAt s at ≡ slot.Holds e → 16 ≤ length s - at
-unfolding slotAt
-held s at e = go (ltb (length s - at) 16) _ refl
+fuel s zero g at h k = absurd (omega arith)
+fuel s (suc f) zero at h k = absurd (omega arith)
+fuel s (suc f) (suc g) at h k = go (fuel s f g (at + 16)) (ltb at (length s)) refl
   where
-    go : (b : Bool) (x : Slot) → ltb (length s - at) 16 ≡ b → pick b slot.Broken x ≡ slot.Holds e → 16 ≤ length s - at
-    go true x q h = absurd (let z : _≡_ {A = ℕ} 0 1 = cc in omega arith)
-    go false x q h = ltb-false (length s - at) 16 q
+    go : (length s - (at + 16) < f → length s - (at + 16) < g → bookFrom s f (at + 16) ≡ bookFrom s g (at + 16)) → (b : Bool) → ltb at (length s) ≡ b
+        → pick b (onSlot (bookFrom s f (at + 16)) (slotAt s at)) (ends true) ≡ pick b (onSlot (bookFrom s g (at + 16)) (slotAt s at)) (ends true)
+    go again true q = let l = ltb-true at (length s) q in rw (again (omega arith) (omega arith))
+    go again false q = refl
 
-module _ (s : List ℕ) (track field at n last : ℕ) (first : Found) (l : Left s track field at n last first) where
-  pub on-out : length s ≤ at → orNotThere first ≡ lookupOf s track field
-  unfolding judge firstIn
-  on-out h = sym (l .same ∙ rw (out s (l .fuel) at (omega (arith, l .enough)) h, first-alone first))
+-- what stands as record n may follow the last
+abbrev pub standing : ℕ → ℕ → Slot → Bool
+standing n last broken = false
+standing n last (holds e) = stands n last e
 
-  module _ (h : at < length s) where
-    now-turn : lookupOf s track field ≡ comesTo track field n last first (onSlot (bookFrom s (l .fuel - 1) (at + 16)) (slotAt s at))
-    now-turn = l .same ∙ rw (turn s (l .fuel) at (omega (arith, l .enough)) h)
+module _ (s : List ℕ) (n : ℕ) where
+  pub out : length s ≤ n * 16 → bookAt s n ≡ ends true
+  unfolding bookFrom
+  out h = rw (le-ltb (n * 16) (length s) h)
 
-    pub on-broken : slotAt s at ≡ slot.Broken → lookup.Refused (refusal 23 n) ≡ lookupOf s track field
+  pub turn : n * 16 < length s → bookAt s n ≡ onSlot (bookAt s (n + 1)) (slotAt s (n * 16))
+  unfolding bookFrom
+  turn h =
+      let e : n * 16 + 16 ≡ (n + 1) * 16 = omega arith in
+      rw (lt-ltb (n * 16) (length s) h, fuel s (length s) (suc (length s)) (n * 16 + 16) (omega arith) (omega arith), e)
+
+-- two bytes, tested one by one or as one number
+pair : (a b : ℕ) → a < 256 → eqb (a + b * 0x100) 0x5847 ≡ pick (eqb a 0x47) (eqb b 0x58) false
+pair a b h = go (eqb a 0x47) (eqb b 0x58) refl refl
+  where
+    go : (p q : Bool) → eqb a 0x47 ≡ p → eqb b 0x58 ≡ q → eqb (a + b * 0x100) 0x5847 ≡ pick p q false
+    go true true x y = eq-eqb (a + b * 0x100) 0x5847 (omega (arith, eqb-true a 0x47 x, eqb-true b 0x58 y))
+    go true false x y = ne-eqb (a + b * 0x100) 0x5847 (λ z. eqb-false b 0x58 y (omega (arith, eqb-true a 0x47 x, z)))
+    go false q x y = ne-eqb (a + b * 0x100) 0x5847 (λ z. eqb-false a 0x47 x (omega (arith, z)))
+
+shape : (p q t k r : Bool) (n last : ℕ) (e : Entry) → stands n last e ≡ pick t false (pick k r false)
+    → standing n last (pick p (pick q (holds e) broken) broken) ≡ pick (pick (pick p q false) (pick t false k) false) r false
+shape false q t k r n last e h = refl
+shape true false t k r n last e h = refl
+shape true true true k r n last e h = h
+shape true true false true r n last e h = h
+shape true true false false r n last e h = h
+
+-- what is no record has no entry; of a record the entry is what its bytes say
+module _ (n last : ℕ) (e : Entry) where
+  kept : (p q r : Bool) → standing n last (pick p broken (pick q (pick r (holds e) broken) broken)) ≡ true → pick p broken (pick q (pick r (holds e) broken) broken) ≡ holds e
+  kept false true true h = refl
+  kept true q r h = absurd (let z : _≡_ {A = ℕ} 0 1 = cc in omega arith)
+  kept false false r h = absurd (let z : _≡_ {A = ℕ} 0 1 = cc in omega arith)
+  kept false true false h = absurd (let z : _≡_ {A = ℕ} 0 1 = cc in omega arith)
+
+-- the entry that the bytes at a place say
+abbrev said : List ℕ → ℕ → Entry
+said s at = record { track = getD s (at + 2) 0; kind = getD s (at + 3) 0; field = le s (at + 4) 4; at = le s (at + 8) 8 }
+
+-- by its first word and its offset: whether a record that is there may stand as record n
+pub seen : (s : List ℕ) → Bytes s → (at n last : ℕ) → at + 16 ≤ length s
+    → standing n last (slotAt s at) ≡ pick (soundHead (le s at 4)) (risesAt n last (le s (at + 8) 8)) false
+unfolding slotAt soundHead stands
+seen s g at n last room =
+    let w = le-four s at _ _ _ _ refl refl refl refl in
+    let a : le s at 4 % 0x10000 ≡ getD s at 0 + getD s (at + 1) 0 * 0x100 = omega (arith, w, g at, g (at + 1), g (at + 2), g (at + 3)) in
+    let b : le s at 4 / 0x10000 ≡ getD s (at + 2) 0 + getD s (at + 3) 0 * 0x100 = omega (arith, w, g at, g (at + 1), g (at + 2), g (at + 3)) in
+    let c : (getD s (at + 2) 0 + getD s (at + 3) 0 * 0x100) % 0x100 ≡ getD s (at + 2) 0 = omega (arith, g (at + 2)) in
+    let d : le s at 4 / 0x1000000 ≡ getD s (at + 3) 0 = omega (arith, w, g at, g (at + 1), g (at + 2), g (at + 3)) in
+    rw (le-ltb (length s - at) 16 (omega arith), a, b, c, d, pair (getD s at 0) (getD s (at + 1) 0) (g at .fits))
+    (shape
+    (eqb (getD s at 0) 0x47)
+    (eqb (getD s (at + 1) 0) 0x58)
+    (ltb 63 (getD s (at + 2) 0))
+    (knownType (getD s (at + 3) 0))
+    (risesAt n last (le s (at + 8) 8))
+    n
+    last
+    (said s at)
+    refl)
+
+module _ (s : List ℕ) (n last : ℕ) where
+  -- behind the last record: nothing, or too few bytes
+  pub at-end : length s ≤ n * 16 → verdictFrom s n last ≡ good
+  unfolding judge
+  at-end h = rw (out s n h)
+
+  pub none-at-end : (track field : ℕ) → length s ≤ n * 16 → firstIn track field (bookAt s n .entries) ≡ nothing
+  unfolding firstIn
+  none-at-end track field h = rw (out s n h)
+
+  module _ (h : n * 16 < length s) where
+    pub fault : standing n last (slotAt s (n * 16)) ≡ false → verdictFrom s n last ≡ bad n
     unfolding judge
-    on-broken e = sym (now-turn ∙ rw e)
+    fault f = rw (turn s n h) (go (slotAt s (n * 16)) f)
+      where
+        go : (x : Slot) → standing n last x ≡ false → judge n last (onSlot (bookAt s (n + 1)) x .entries) (onSlot (bookAt s (n + 1)) x .whole) ≡ bad n
+        go broken f = refl
+        go (holds e) f = rw f
 
-    module _ (x : Entry) (e : slotAt s at ≡ slot.Holds x) where
-      pub on-bad : stands n last x ≡ false → lookup.Refused (refusal 23 n) ≡ lookupOf s track field
+    pub torn : length s < n * 16 + 16 → verdictFrom s n last ≡ bad n
+    unfolding slotAt
+    torn k = fault (rw (lt-ltb (length s - n * 16) 16 (omega arith)))
+
+    module _ (f : standing n last (slotAt s (n * 16)) ≡ true) where
+      here : slotAt s (n * 16) ≡ holds (said s (n * 16))
+      unfolding slotAt
+      here = kept n last (said s (n * 16)) (ltb (length s - n * 16) 16) (eqb (getD s (n * 16) 0) 0x47) (eqb (getD s (n * 16 + 1) 0) 0x58) f
+
+      pub next : verdictFrom s n last ≡ verdictFrom s (n + 1) (le s (n * 16 + 8) 8)
       unfolding judge
-      on-bad b = sym (now-turn ∙ rw (e, b))
+      next = let q : stands n last (said s (n * 16)) ≡ true = rw here at f in rw (turn s n h, here, q)
 
-      pub on-next : stands n last x ≡ true → Left s track field (at + 16) (n + 1) (x .at) (orFirst first (firstHere track field x))
-      unfolding judge firstIn
-      on-next b =
-          record {
-            fuel = l .fuel - 1;
-            enough = omega (arith, l .enough, held s at x e);
-            same = now-turn ∙ rw (e, b, first-assoc first (isOf track field x) (x .at) (firstIn track field (bookFrom s (l .fuel - 1) (at + 16) .entries)));
-          }
+      pub first : (track field : ℕ) → firstIn track field (bookAt s n .entries)
+          ≡ pick (isOf track field (said s (n * 16))) (there (le s (n * 16 + 8) 8)) (firstIn track field (bookAt s (n + 1) .entries))
+      unfolding firstIn
+      first track field = rw (turn s n h, here)
+
+-- a turn at a record that is there
+module _ (s : List ℕ) (g : Bytes s) (n last : ℕ) (room : n * 16 + 16 ≤ length s) where
+  pub is-bad : (a : LookupAnswer) → pick (soundHead (le s (n * 16) 4)) (risesAt n last (le s (n * 16 + 8) 8)) false ≡ false
+      → lookup.Refused (refusal 23 n) ≡ ifGood (verdictFrom s n last) a
+  is-bad a q = rw (fault s n last (omega arith) (seen s g (n * 16) n last room ∙ q))
+
+  pub may-stand : soundHead (le s (n * 16) 4) ≡ true → risesAt n last (le s (n * 16 + 8) 8) ≡ true → standing n last (slotAt s (n * 16)) ≡ true
+  may-stand p q = seen s g (n * 16) n last room ∙ rw (p, q)
+
+-- what is left to do from record n on, with none found yet
+abbrev pub answerFrom : List ℕ → ℕ → ℕ → ℕ → ℕ → LookupAnswer
+answerFrom s track field n last = ifGood (verdictFrom s n last) (orNotThere (firstIn track field (bookAt s n .entries)))
+
+pub begin : (s : List ℕ) (track field : ℕ) → lookupOf s track field ≡ answerFrom s track field 0 0
+unfolding lookupOf bookOf
+begin s track field = refl
+
+-- behind the last whole record: nothing, or a broken tail
+pub on-end : (s : List ℕ) (n last : ℕ) (a b : LookupAnswer) → n ≡ length s / 16 → (length s ≤ n * 16 → a ≡ b)
+    → pick (eqb (length s % 16) 0) a (lookup.Refused (refusal 23 n)) ≡ ifGood (verdictFrom s n last) b
+on-end s n last a b e f = go (eqb (length s % 16) 0) refl
+  where
+    go : (x : Bool) → eqb (length s % 16) 0 ≡ x → pick x a (lookup.Refused (refusal 23 n)) ≡ ifGood (verdictFrom s n last) b
+    go true q = let z = eqb-true (length s % 16) 0 q in rw (at-end s n last (omega arith)) (f (omega arith))
+    go false q = let z = eqb-false (length s % 16) 0 q in rw (torn s n last (omega arith) (omega arith))
+
+module _ (s : List ℕ) (track field n last : ℕ) (room : n * 16 + 16 ≤ length s) (f : standing n last (slotAt s (n * 16)) ≡ true) where
+  on-next : isOf track field (said s (n * 16)) ≡ false → answerFrom s track field n last ≡ answerFrom s track field (n + 1) (le s (n * 16 + 8) 8)
+  on-next q = rw (next s n last (omega arith) f, first s n last (omega arith) f track field, q)
+
+  pub other-field : (le s (n * 16 + 4) 4 ≡ field → ⊥) → answerFrom s track field n last ≡ answerFrom s track field (n + 1) (le s (n * 16 + 8) 8)
+  other-field h = on-next (rw (ne-eqb (le s (n * 16 + 4) 4) field h) (go (eqb (getD s (n * 16 + 2) 0) track)))
+    where
+      go : (b : Bool) → pick b false false ≡ false
+      go true = refl
+      go false = refl
+
+  pub other-track : (getD s (n * 16 + 2) 0 ≡ track → ⊥) → answerFrom s track field n last ≡ answerFrom s track field (n + 1) (le s (n * 16 + 8) 8)
+  other-track h = on-next (rw (ne-eqb (getD s (n * 16 + 2) 0) track h))
+
+  pub on-found : le s (n * 16 + 4) 4 ≡ field → getD s (n * 16 + 2) 0 ≡ track
+      → ifGood (verdictFrom s (n + 1) (le s (n * 16 + 8) 8)) (lookup.At (le s (n * 16 + 8) 8)) ≡ answerFrom s track field n last
+  on-found p q = rw (next s n last (omega arith) f, first s n last (omega arith) f track field, eq-eqb (getD s (n * 16 + 2) 0) track q, eq-eqb (le s (n * 16 + 4) 4) field p)

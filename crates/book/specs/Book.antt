@@ -1,5 +1,5 @@
 -- The seek book (01, "Stream, seek, book"): the entries, their bytes, when a lent book is good, and lookup. A book is its list of entries; only the bytes know the layout.
-use Prim.Native.Nat.{ℕ, zero, suc, _+_, _-_}
+use Prim.Native.Nat.{ℕ, zero, suc, _+_, _-_, _*_, _/_, _%_}
 use mathlib.Core.Bool.{Bool, true, false}
 use mathlib.Core.List.{List, [], _∷_, _++_}
 use lib.ListN.{length, getD}
@@ -9,10 +9,6 @@ use Rattle.plate.specs.Plate.{refusal}
 use Rattle.number.specs.Number.{le, leBytes}
 use Rattle.media_type.specs.MediaType.{knownType}
 use Rattle.book.specs.declared.Entry.{Entry}
-use Rattle.book.specs.declared.Slot.{Slot}
-use Rattle.book.specs.declared.Slot.the-variants as slot
-use Rattle.book.specs.declared.Found.{Found}
-use Rattle.book.specs.declared.Found.the-variants as found
 use Rattle.book.specs.declared.LookupAnswer.{LookupAnswer}
 use Rattle.book.specs.declared.LookupAnswer.the-variants as lookup
 
@@ -24,15 +20,20 @@ unfoldable pub bytesOf : List Entry → List ℕ
 bytesOf [] = []
 bytesOf (e ∷ es) = recordBytes e ++ bytesOf es
 
+-- what stands at a place: a record, or something else
+pub data Slot : Type 0 where
+  broken : Slot
+  holds : Entry → Slot
+
 -- the decoder: what stands at a place, a record where 16 bytes with the marks are there; a short tail and a wrong mark are both no record
 unfoldable pub slotAt : List ℕ → ℕ → Slot
 slotAt s at =
-    pick (ltb (length s - at) 16) slot.Broken
+    pick (ltb (length s - at) 16) broken
     (pick (eqb (getD s at 0) 0x47)
     (pick (eqb (getD s (at + 1) 0) 0x58)
-    (slot.Holds (record { track = getD s (at + 2) 0; kind = getD s (at + 3) 0; field = le s (at + 4) 4; at = le s (at + 8) 8 }))
-    slot.Broken)
-    slot.Broken)
+    (holds (record { track = getD s (at + 2) 0; kind = getD s (at + 3) 0; field = le s (at + 4) 4; at = le s (at + 8) 8 }))
+    broken)
+    broken)
 
 -- a lent book taken apart: its entries up to its end, or up to something that is no record
 pub record Book : Type 0 where
@@ -43,8 +44,8 @@ abbrev pub ends : Bool → Book
 ends w = record { entries = []; whole = w }
 
 abbrev pub onSlot : Book → Slot → Book
-onSlot rest slot.Broken = ends false
-onSlot rest (slot.Holds e) = record { entries = e ∷ rest .entries; whole = rest .whole }
+onSlot rest broken = ends false
+onSlot rest (holds e) = record { entries = e ∷ rest .entries; whole = rest .whole }
 
 -- from a place on; f is more than the records that can follow
 unfoldable pub bookFrom : List ℕ → ℕ → ℕ → Book
@@ -54,9 +55,13 @@ bookFrom s (suc f) at = pick (ltb at (length s)) (onSlot (bookFrom s f (at + 16)
 unfoldable pub bookOf : List ℕ → Book
 bookOf s = bookFrom s (suc (length s)) 0
 
--- as record n, where `last` is the offset of the record before it: ID up to 63, known type and, but for record 0, an offset over the last
+-- as record n, where `last` is the offset of the record before it: but for record 0 an offset over the last
+unfoldable pub risesAt : ℕ → ℕ → ℕ → Bool
+risesAt n last offset = pick (eqb n 0) true (ltb last offset)
+
+-- and an ID up to 63, and a known type
 unfoldable pub stands : ℕ → ℕ → Entry → Bool
-stands n last e = pick (ltb 63 (e .track)) false (pick (knownType (e .kind)) (pick (eqb n 0) true (ltb last (e .at))) false)
+stands n last e = pick (ltb 63 (e .track)) false (pick (knownType (e .kind)) (risesAt n last (e .at)) false)
 
 -- a book is good, or bad, with the number of its lowest bad record
 pub data Verdict : Type 0 where
@@ -71,15 +76,20 @@ judge n last (e ∷ es) whole = pick (stands n last e) (judge (n + 1) (e .at) es
 abbrev pub isOf : ℕ → ℕ → Entry → Bool
 isOf track field e = pick (eqb (e .track) track) (eqb (e .field) field) false
 
+-- an offset, if there is one
+pub data Found : Type 0 where
+  nothing : Found
+  there : ℕ → Found
+
 -- the offset of the first entry of a track and field
 unfoldable pub firstIn : ℕ → ℕ → List Entry → Found
-firstIn track field [] = found.Nothing
-firstIn track field (e ∷ es) = pick (isOf track field e) (found.At (e .at)) (firstIn track field es)
+firstIn track field [] = nothing
+firstIn track field (e ∷ es) = pick (isOf track field e) (there (e .at)) (firstIn track field es)
 
 -- the first entry of the track and field, or 16
 abbrev pub orNotThere : Found → LookupAnswer
-orNotThere (found.At o) = lookup.At o
-orNotThere found.Nothing = lookup.Refused (refusal 16 0)
+orNotThere (there o) = lookup.At o
+orNotThere nothing = lookup.Refused (refusal 16 0)
 
 abbrev pub ifGood : Verdict → LookupAnswer → LookupAnswer
 ifGood good a = a
@@ -92,10 +102,12 @@ lookupIn b track field = ifGood (judge 0 0 (b .entries) (b .whole)) (orNotThere 
 unfoldable pub lookupOf : List ℕ → ℕ → ℕ → LookupAnswer
 lookupOf s track field = lookupIn (bookOf s) track field
 
--- what one pass collects: the first entry so far, and with it one more
-abbrev pub orFirst : Found → Found → Found
-orFirst (found.At o) later = found.At o
-orFirst found.Nothing later = later
+-- how one pass judges: the first four bytes as one word, and from record n on
+unfoldable pub soundHead : ℕ → Bool
+soundHead h = pick (eqb (h % 0x10000) 0x5847) (pick (ltb 63 (h / 0x10000 % 0x100)) false (knownType (h / 0x1000000))) false
 
-abbrev pub firstHere : ℕ → ℕ → Entry → Found
-firstHere track field e = pick (isOf track field e) (found.At (e .at)) found.Nothing
+abbrev pub bookAt : List ℕ → ℕ → Book
+bookAt s n = bookFrom s (suc (length s)) (n * 16)
+
+abbrev pub verdictFrom : List ℕ → ℕ → ℕ → Verdict
+verdictFrom s n last = judge n last (bookAt s n .entries) (bookAt s n .whole)

@@ -1,9 +1,13 @@
 // The seek book: its records, and the lookup of a track's field in a lent book.
 use plate::Refusal;
 ghost use mathlib.Core.Path.{_≡_};
-ghost use mathlib.Core.Bool.{true, false};
+ghost use Prim.Native.Nat.{_+_, _*_, _%_, _<_, _≤_, _^_};
+ghost use lib.ListN.{length};
+ghost use lib.Dec.{eqb};
+ghost use Rattle.plate.specs.Choice.{pick};
 ghost use Rattle.plate.specs.Plate.{refusal};
-ghost use Rattle.book.specs.Book.{slotAt, stands, orFirst, firstHere, lookupOf};
+ghost use Rattle.number.specs.Number.{le};
+ghost use Rattle.book.specs.Book.{soundHead, risesAt, ifGood, verdictFrom, lookupOf};
 
 // What a record says: a track ID, a media type, a field number and the offset of the packet that carries it.
 pub struct Entry {
@@ -13,78 +17,38 @@ pub struct Entry {
     pub at: usize,
 }
 
-// What stands at a place of a book: a record, or something else.
-pub enum Slot {
-    Holds(Entry),
-    Broken,
-}
-
-// An offset, if there is one.
-pub enum Found {
-    At(usize),
-    Nothing,
-}
-
 pub enum LookupAnswer {
     At(usize),
     Refused(Refusal),
 }
 
-// The record at a place: 16 bytes with the marks.
-fn slot_at(book: &[u8], at: usize) -> Slot
-    ensures { λ r. ⌜ r ≡ slotAt (now (book .entry)) at ⌝ }
+// The first four bytes of a record as one word: marks, an ID up to 63, a known type. Types 7 to 18 show on the word itself, without taking the type out.
+fn is_sound(head: usize) -> bool
+    requires { ⌜ head < 2 ^ 32 ⌝ }
+    ensures { λ r. ⌜ r ≡ soundHead head ⌝ }
 {
-    if number::left(book, at) < 16 {
-        return Slot::Broken;
-    }
-    if book[at] != 0x47 {
-        return Slot::Broken;
-    }
-    if book[at + 1] != 0x58 {
-        return Slot::Broken;
-    }
-    let field = number::le_at(book, at + 4, 4);
-    let offset = number::le_at(book, at + 8, 8);
-    Slot::Holds(Entry {
-        track: book[at + 2],
-        kind: book[at + 3],
-        field,
-        at: offset,
-    })
-}
-
-// Whether an entry may stand as record n, behind one of offset last.
-fn may_stand(e: Entry, n: usize, last: usize) -> bool
-    ensures { λ r. ⌜ r ≡ stands n last e ⌝ }
-{
-    if 63 < e.track {
+    if head % 0x10000 != 0x5847 {
         return false;
     }
-    if media_type::is_known(e.kind) {
-        if n == 0 {
+    if 63 < head / 0x10000 % 0x100 {
+        return false;
+    }
+    if 0x7000000 <= head {
+        if head < 0x13000000 {
             return true;
         }
-        return last < e.at;
     }
-    false
+    media_type::is_known((head / 0x1000000) as u8)
 }
 
-// The first entry of a track and field so far, with one entry more.
-fn found_with(found: Found, e: Entry, track: u64, field: u64) -> Found
-    ensures { λ r. ⌜ r ≡ orFirst found (firstHere track field e) ⌝ }
+// Whether the offset of record n may follow the last.
+fn rises(n: usize, last: usize, offset: usize) -> bool
+    ensures { λ r. ⌜ r ≡ risesAt n last offset ⌝ }
 {
-    match found {
-        Found::At(o) => Found::At(o),
-        Found::Nothing => {
-            if e.track as u64 != track {
-                return Found::Nothing;
-            }
-            if e.field as u64 != field {
-                return Found::Nothing;
-            }
-            Found::At(e.at)
-        }
+    if n == 0 {
+        return true;
     }
+    last < offset
 }
 
 fn bad_book(n: usize) -> LookupAnswer
@@ -93,34 +57,76 @@ fn bad_book(n: usize) -> LookupAnswer
     LookupAnswer::Refused(plate::refuse(plate::BOOK, n))
 }
 
+// The offset in the record at a place.
+fn offset_at(book: &[u8], at: usize) -> usize
+    requires { ⌜ at + 16 ≤ length (now book) ⌝ }
+    ensures { λ r. ⌜ r ≡ le (now (book .entry)) (at + 8) 8 ⌝ }
+{
+    number::le_at(book, at + 8, 8)
+}
+
+// An answer, if no broken tail follows the n records.
+fn unless_torn(book: &[u8], n: usize, answer: LookupAnswer) -> LookupAnswer
+    ensures { λ r. ⌜ r ≡ pick (eqb (length (now (book .entry)) % 16) 0) answer (LookupAnswer.Refused (refusal 23 n)) ⌝ }
+{
+    if book.len() % 16 == 0 {
+        return answer;
+    }
+    bad_book(n)
+}
+
+// The answer that was found, if the records from number `passed` on are good too.
+fn rest(book: &[u8], passed: usize, before: usize, answer: usize) -> LookupAnswer
+    requires { ⌜ passed * 16 ≤ length (now book) ⌝ }
+    ensures { λ r. ⌜ r ≡ ifGood (verdictFrom (now (book .entry)) passed before) (LookupAnswer.At answer) ⌝ }
+{
+    let records = book.len() / 16;
+    let mut n = passed;
+    let mut last = before;
+    while n < records {
+        let at = n * 16;
+        let offset = offset_at(book, at);
+        if !is_sound(number::le4(book, at)) {
+            return bad_book(n);
+        }
+        if !rises(n, last, offset) {
+            return bad_book(n);
+        }
+        last = offset;
+        n += 1;
+    }
+    unless_torn(book, n, LookupAnswer::At(answer))
+}
+
 // The offset of the first record of a track and field; 23 at the lowest bad record before all, 16 where no record has them.
+// Its words are read before its tests, so that each is one load; once the record is found, only the rest is judged.
 pub fn lookup(book: &[u8], track: u64, field: u64) -> LookupAnswer
     ensures { λ r. ⌜ r ≡ lookupOf (now (book .entry)) track field ⌝ }
 {
-    let mut at: usize = 0;
+    let records = book.len() / 16;
     let mut n: usize = 0;
     let mut last: usize = 0;
-    let mut found = Found::Nothing;
-    while at < book.len() {
-        match slot_at(book, at) {
-            Slot::Broken => {
-                return bad_book(n);
-            }
-            Slot::Holds(e) => {
-                let offset = e.at;
-                if may_stand(e, n, last) {
-                    found = found_with(found, e, track, field);
-                    n += 1;
-                    last = offset;
-                    at += 16;
-                } else {
-                    return bad_book(n);
-                }
+    while n < records {
+        let at = n * 16;
+        let here = number::le4(book, at + 4);
+        let offset = offset_at(book, at);
+        if !is_sound(number::le4(book, at)) {
+            return bad_book(n);
+        }
+        if !rises(n, last, offset) {
+            return bad_book(n);
+        }
+        n += 1;
+        if here as u64 == field {
+            if book[at + 2] as u64 == track {
+                return rest(book, n, offset, offset);
             }
         }
+        last = offset;
     }
-    match found {
-        Found::At(o) => LookupAnswer::At(o),
-        Found::Nothing => LookupAnswer::Refused(plate::refuse(plate::NOT_THERE, 0)),
-    }
+    unless_torn(
+        book,
+        n,
+        LookupAnswer::Refused(plate::refuse(plate::NOT_THERE, 0)),
+    )
 }

@@ -20,9 +20,7 @@ use Rattle.stream.specs.declared.CheckAnswer.{CheckAnswer}
 use Rattle.stream.specs.declared.CheckAnswer.the-variants as check
 use Rattle.stream.specs.declared.SeekAnswer.{SeekAnswer}
 use Rattle.stream.specs.declared.SeekAnswer.the-variants as seek
-use Rattle.book.specs.Book.{bytesOf, judge, good, bookOf, firstIn, lookupOf, orNotThere as orNoRecord}
-use Rattle.book.specs.declared.Found.{Found}
-use Rattle.book.specs.declared.Found.the-variants as found
+use Rattle.book.specs.Book.{bytesOf, judge, good, bookOf, Found, nothing, there, firstIn, lookupOf, orNotThere as orNoRecord}
 use Rattle.book.specs.declared.LookupAnswer.{LookupAnswer}
 use Rattle.book.specs.declared.LookupAnswer.the-variants as lookup
 use Rattle.book.proofs.Coding.{length-bytes, book-back, lookup-back}
@@ -36,8 +34,8 @@ asSeek (lookup.At o) = seek.At o
 asSeek (lookup.Refused r) = seek.Refused r
 
 abbrev spotOf : Found → Spot
-spotOf (found.At o) = spot.At o
-spotOf found.Nothing = spot.Nothing
+spotOf (there o) = spot.At o
+spotOf nothing = spot.Nothing
 
 -- one packet: it carries the field of the track where its record is of that track and field
 first-with : (track field : ℕ) (x : Placed) (xs : List Placed) → spotOf (firstIn track field (entriesOf xs)) ≡ firstOf track field xs
@@ -63,8 +61,8 @@ first-same track field [] = refl
 first-same track field (x ∷ xs) = first-with track field x xs (first-same track field xs)
 
 answer-same : (a : Found) → asSeek (orNoRecord a) ≡ orNotThere (spotOf a)
-answer-same (found.At o) = refl
-answer-same found.Nothing = refl
+answer-same (there o) = refl
+answer-same nothing = refl
 
 first-in : (s : List ℕ) (track field : ℕ) → spotOf (firstIn track field (entriesIn s)) ≡ firstOf track field (packets s .list)
 unfolding entriesIn

@@ -1,77 +1,136 @@
 use Rattle.book.proofs.lookup.Statement.{statement}
 use Rattle.book.proofs.lookup.Tie as tie
+use Rattle.book.proofs.lookup.Reads as reads
+use Rattle.book.proofs.lookup.Lts as lts
+use Rattle.book.proofs.bad_book.Reads as bad-book-reads
+use Rattle.book.proofs.is_sound.Reads as is-sound-reads
+use Rattle.book.proofs.offset_at.Reads as offset-at-reads
+use Rattle.book.proofs.rest.Reads as rest-reads
+use Rattle.book.proofs.rises.Reads as rises-reads
+use Rattle.book.proofs.unless_torn.Reads as unless-torn-reads
+use Rattle.number.proofs.le4.Reads as le4-reads
+use Rattle.plate.proofs.refuse.Reads as refuse-reads
 use borrow.Author.Needs.{needs}
 use native.Mathlib.Omega.{arith}
-use Prim.Native.Nat.{_≤_, _-_}
-use mathlib.Core.Path.{sym, _∙_}
+use native.Mathlib.Omega.{arith}
+use Prim.Native.Nat.{_+_, _*_, _/_, _≤_, _<_, _-_, _^_}
+use mathlib.Core.Path.{_≡_, refl, sym, _∙_}
 use lib.ListN.{length}
-use Rattle.book.proofs.Laws.{Left, begin, held, on-out, on-broken, on-bad, on-next}
+use Rattle.plate.proofs.Tests.{off, on}
+use Rattle.number.proofs.Laws.{le-lt}
+use Rattle.book.specs.Book.{lookupOf}
+use Rattle.book.proofs.Laws.{answerFrom, begin, none-at-end, is-bad, may-stand, on-end, other-field, other-track, on-found}
 
 abbrev Inv-loop : tie.InvT-loop
-Inv-loop s track field at₀ n₀ last₀ found₀ at n last found = (at ≤ length s) × (n ≤ at) × Left s track field at n last found
+Inv-loop book track field records n₀ last₀ n last = (records ≡ length book / 16) × (n ≤ records) × (lookupOf book track field ≡ answerFrom book track field n last)
 
 abbrev μ-loop : tie.MeasureT-loop
-μ-loop s track field at₀ n₀ last₀ found₀ at n last found = length s - at
+μ-loop book track field records n₀ last₀ n last = records - n
 
 loop-holds : tie.Need-loop-holds Inv-loop μ-loop
-loop-holds c = (omega arith, omega arith, begin _ _ _)
+loop-holds c = (refl, omega arith, begin _ _ _)
 
-slot-at-requires : tie.Need-slot-at-requires Inv-loop μ-loop
-slot-at-requires c κs = search needs
+mul-at : tie.Need-mul-at Inv-loop μ-loop
+mul-at c = search needs
 
-enum-told : tie.Need-enum-told Inv-loop μ-loop
-enum-told c = search needs
+add-le4 : tie.Need-add-le4 Inv-loop μ-loop
+add-le4 c = search needs
+
+le4-requires : tie.Need-le4-requires Inv-loop μ-loop
+le4-requires c κs = search needs
+
+offset-at-requires : tie.Need-offset-at-requires Inv-loop μ-loop
+offset-at-requires c κs = search needs
+
+le4-requires-2 : tie.Need-le4-requires-2 Inv-loop μ-loop
+le4-requires-2 c κs = search needs
+
+is-sound-requires : tie.Need-is-sound-requires Inv-loop μ-loop
+is-sound-requires c κs = rw (c .le42 .ensures) (le-lt _ (c .before .before .before .before .before .shared-slice-known .given) (c .before .before .before .before .loop .n * 16) 4)
 
 bad-book-requires : tie.Need-bad-book-requires Inv-loop μ-loop
 bad-book-requires c κs = search needs
 
 returns : tie.Need-returns Inv-loop μ-loop
-returns c = c .bad-book .ensures ∙ on-broken _ _ _ _ _ _ _ (c .before .before .before .before .before .loop .inv .2) (c .before .before .before .before .loop-test .taken) (sym (c .before .before .before .slot-at .ensures) ∙ c .before .enum-told .given .1)
+returns c =
+    let l = c .before .before .before .before .before .before .before .loop in
+    let s = c .before .before .before .before .before .before .before .before .before .args .book .now in
+    let e = off (c .before .before .is-sound .result) (c .before .if1 .taken) in
+    rw (l .inv .2) (c .bad-book .ensures ∙ is-bad s (c .before .before .before .before .before .before .before .before .shared-slice-known .given) (l .n) (l .last) (omega arith) _ (rw (← c .before .before .before .le42 .ensures, ← c .before .before .is-sound .ensures, e)))
 
-enum-known-e : tie.Need-enum-known-e Inv-loop μ-loop
-enum-known-e c = search needs
-
-may-stand-requires : tie.Need-may-stand-requires Inv-loop μ-loop
-may-stand-requires c κs = search needs
-
-found-with-requires : tie.Need-found-with-requires Inv-loop μ-loop
-found-with-requires c κs = search needs
-
-add-n : tie.Need-add-n Inv-loop μ-loop
-add-n c = let w = held _ _ _ (sym (c .before .before .before .before .before .before .slot-at .ensures) ∙ c .before .before .before .before .e .given .1) in omega arith
-
-add-at : tie.Need-add-at Inv-loop μ-loop
-add-at c = let w = held _ _ _ (sym (c .before .before .before .before .before .before .slot-at .ensures) ∙ c .before .before .before .before .e .given .1) in omega arith
-
-loop-less : tie.Need-loop-less Inv-loop μ-loop
-loop-less c = let w = held _ _ _ (sym (c .before .before .before .before .before .before .slot-at .ensures) ∙ c .before .before .before .before .e .given .1) in omega arith
-
-loop-again : tie.Need-loop-again Inv-loop μ-loop
-loop-again c =
-    let e = sym (c .before .before .before .before .before .before .slot-at .ensures) ∙ c .before .before .before .before .e .given .1 in
-    let w = held _ _ _ e in
-    (omega arith, omega arith, rw (c .found-with .ensures) (on-next _ _ _ _ _ _ _ (c .before .before .before .before .before .before .before .before .loop .inv .2) (c .before .before .before .before .before .before .before .loop-test .taken) _ e (sym (c .before .before .may-stand .ensures) ∙ c .before .if1 .taken)))
+rises-requires : tie.Need-rises-requires Inv-loop μ-loop
+rises-requires c κs = search needs
 
 bad-book-requires-2 : tie.Need-bad-book-requires-2 Inv-loop μ-loop
 bad-book-requires-2 c κs = search needs
 
 returns-2 : tie.Need-returns-2 Inv-loop μ-loop
-returns-2 c = c .bad-book2 .ensures ∙ on-bad _ _ _ _ _ _ _ (c .before .before .before .before .before .before .before .before .loop .inv .2) (c .before .before .before .before .before .before .before .loop-test .taken) _ (sym (c .before .before .before .before .before .before .slot-at .ensures) ∙ c .before .before .before .before .e .given .1) (sym (c .before .before .may-stand .ensures) ∙ c .before .if1 .left)
+returns-2 c =
+    let l = c .before .before .before .before .before .before .before .before .before .loop in
+    let s = c .before .before .before .before .before .before .before .before .before .before .before .args .book .now in
+    let e = on (c .before .before .before .before .is-sound .result) (c .before .before .before .if1 .left) in
+    let f = off (c .before .before .rises .result) (c .before .if2 .taken) in
+    rw (l .inv .2) (c .bad-book2 .ensures ∙ is-bad s (c .before .before .before .before .before .before .before .before .before .before .shared-slice-known .given) (l .n) (l .last) (omega arith) _ (rw (← c .before .before .before .before .before .le42 .ensures, ← c .before .before .before .before .is-sound .ensures, e, ← c .before .before .before .before .before .before .offset-at .ensures, ← c .before .before .rises .ensures, f)))
 
-enum-known-found : tie.Need-enum-known-found Inv-loop μ-loop
-enum-known-found c = search needs
+add-n : tie.Need-add-n Inv-loop μ-loop
+add-n c = search needs
 
-enum-told-2 : tie.Need-enum-told-2 Inv-loop μ-loop
-enum-told-2 c = search needs
+add-if4 : tie.Need-add-if4 Inv-loop μ-loop
+add-if4 c = search needs
+
+shared-slice-read-if4 : tie.Need-shared-slice-read-if4 Inv-loop μ-loop
+shared-slice-read-if4 c = search needs
+
+cast-if4 : tie.Need-cast-if4 Inv-loop μ-loop
+cast-if4 c = omega (arith, c .before .before .before .before .before .before .before .before .before .before .before .shared-slice-known .given (c .before .before .before .before .before .before .before .before .before .before .loop .n * 16 + 2))
+
+rest-requires : tie.Need-rest-requires Inv-loop μ-loop
+rest-requires c κs = search needs
+
+returns-3 : tie.Need-returns-3 Inv-loop μ-loop
+returns-3 c =
+    let l = c .before .before .before .before .before .before .before .before .before .before .before .before .loop in
+    let s = c .before .before .before .before .before .before .before .before .before .before .before .before .before .before .args .book .now in
+    let p = rw (c .before .before .before .before .before .before .before .before .le42 .ensures) at (sym (c .before .before .before .before .before .before .before .is-sound .ensures) ∙ on (c .before .before .before .before .before .before .before .is-sound .result) (c .before .before .before .before .before .before .if1 .left)) in
+    let q = rw (c .before .before .before .before .before .before .before .before .before .offset-at .ensures) at (sym (c .before .before .before .before .before .rises .ensures) ∙ on (c .before .before .before .before .before .rises .result) (c .before .before .before .before .if2 .left)) in
+    let f = may-stand s (c .before .before .before .before .before .before .before .before .before .before .before .before .before .shared-slice-known .given) (l .n) (l .last) (omega arith) p q in
+    rw (l .inv .2) (c .rest .ensures ∙ rw (c .before .before .before .before .before .before .before .before .before .offset-at .ensures) (on-found s _ _ (l .n) (l .last) (omega arith) f (sym (c .before .before .before .before .before .before .before .before .before .before .le4 .ensures) ∙ c .before .before .before .if3 .taken) (c .before .if4 .taken)))
+
+loop-less : tie.Need-loop-less Inv-loop μ-loop
+loop-less c = search needs
+
+loop-again : tie.Need-loop-again Inv-loop μ-loop
+loop-again c =
+    let l = c .before .before .before .before .before .before .before .before .before .before .before .loop in
+    let s = c .before .before .before .before .before .before .before .before .before .before .before .before .before .args .book .now in
+    let p = rw (c .before .before .before .before .before .before .before .le42 .ensures) at (sym (c .before .before .before .before .before .before .is-sound .ensures) ∙ on (c .before .before .before .before .before .before .is-sound .result) (c .before .before .before .before .before .if1 .left)) in
+    let q = rw (c .before .before .before .before .before .before .before .before .offset-at .ensures) at (sym (c .before .before .before .before .rises .ensures) ∙ on (c .before .before .before .before .rises .result) (c .before .before .before .if2 .left)) in
+    let f = may-stand s (c .before .before .before .before .before .before .before .before .before .before .before .before .shared-slice-known .given) (l .n) (l .last) (omega arith) p q in
+    (refl, omega arith, l .inv .2 ∙ rw (c .before .before .before .before .before .before .before .before .offset-at .ensures) (other-track s _ _ (l .n) (l .last) (omega arith) f (c .if4 .left)))
+
+loop-less-2 : tie.Need-loop-less-2 Inv-loop μ-loop
+loop-less-2 c = search needs
+
+loop-again-2 : tie.Need-loop-again-2 Inv-loop μ-loop
+loop-again-2 c =
+    let l = c .before .before .before .before .before .before .before .before .before .loop in
+    let s = c .before .before .before .before .before .before .before .before .before .before .before .args .book .now in
+    let p = rw (c .before .before .before .before .before .le42 .ensures) at (sym (c .before .before .before .before .is-sound .ensures) ∙ on (c .before .before .before .before .is-sound .result) (c .before .before .before .if1 .left)) in
+    let q = rw (c .before .before .before .before .before .before .offset-at .ensures) at (sym (c .before .before .rises .ensures) ∙ on (c .before .before .rises .result) (c .before .if2 .left)) in
+    let f = may-stand s (c .before .before .before .before .before .before .before .before .before .before .shared-slice-known .given) (l .n) (l .last) (omega arith) p q in
+    (refl, omega arith, l .inv .2 ∙ rw (c .before .before .before .before .before .before .offset-at .ensures) (other-field s _ _ (l .n) (l .last) (omega arith) f (λ z. c .if3 .left (c .before .before .before .before .before .before .before .le4 .ensures ∙ z))))
 
 refuse-requires : tie.Need-refuse-requires Inv-loop μ-loop
 refuse-requires c κs = search needs
 
-returns-3 : tie.Need-returns-3 Inv-loop μ-loop
-returns-3 c = rw (c .before .found .given .1) at (on-out _ _ _ _ _ _ _ (c .before .before .before .before .loop .inv .2) (c .before .before .before .loop-test .left))
+unless-torn-requires : tie.Need-unless-torn-requires Inv-loop μ-loop
+unless-torn-requires c κs = search needs
 
 returns-4 : tie.Need-returns-4 Inv-loop μ-loop
-returns-4 c = rw (c .refuse .ensures) (rw (c .before .enum-told2 .given .1) at (on-out _ _ _ _ _ _ _ (c .before .before .before .before .loop .inv .2) (c .before .before .before .loop-test .left)))
+returns-4 c =
+    let l = c .before .before .before .loop in
+    let s = c .before .before .before .before .before .args .book .now in
+    rw (l .inv .2) (c .unless-torn .ensures ∙ on-end s (l .n) (l .last) _ _ (omega arith) (λ h. rw (c .before .refuse .ensures, none-at-end s (l .n) (l .last) _ _ h)))
 
 pub lookup-spec : {M : Type 1} → statement M
 lookup-spec =
@@ -80,21 +139,27 @@ lookup-spec =
     Inv-loop
     μ-loop
     loop-holds
-    slot-at-requires
-    enum-told
+    mul-at
+    add-le4
+    le4-requires
+    offset-at-requires
+    le4-requires-2
+    is-sound-requires
     bad-book-requires
     returns
-    enum-known-e
-    may-stand-requires
-    found-with-requires
-    add-n
-    add-at
-    loop-less
-    loop-again
+    rises-requires
     bad-book-requires-2
     returns-2
-    enum-known-found
-    enum-told-2
-    refuse-requires
+    add-n
+    add-if4
+    shared-slice-read-if4
+    cast-if4
+    rest-requires
     returns-3
+    loop-less
+    loop-again
+    loop-less-2
+    loop-again-2
+    refuse-requires
+    unless-torn-requires
     returns-4)
