@@ -2,7 +2,7 @@
 from collections import Counter
 from typing import NamedTuple
 
-from library import LIMIT, Refused
+from library import LIMIT, Preamble, Refused
 
 
 class Told(NamedTuple):
@@ -39,8 +39,8 @@ def gather(library, path):
     return Told(path, data, lent, library.listing(path), packets, library.check(path, data), chart, names, texts_of(library, lent, tracks), media)
 
 
-def count(packets):
-    return ", ".join(f"{kind} {n}" for kind, n in Counter(p.kind for p in packets).items())
+def count(kinds):
+    return ", ".join(f"{kind} {n}" for kind, n in Counter(kinds).items())
 
 
 def verdict(answer):
@@ -64,7 +64,7 @@ def short(text):
 def first_media_line(told, track):
     """The first media packet of a track, by its preamble."""
     for packet, preamble in told.media:
-        if preamble and not isinstance(preamble, Refused) and preamble.id == track.id:
+        if isinstance(preamble, Preamble) and preamble.id == track.id:
             info = preamble.information.to_bytes(4, "big").hex(" ")
             return f"first media packet at {packet.at}: field {preamble.field}, information {info}, time line {preamble.timeline}, flags {preamble.flags}"
     too_long = sum(preamble is None for _, preamble in told.media)
@@ -81,9 +81,11 @@ def track_lines(library, told, track):
 
 
 def text_line(texts):
-    for track, parameters in texts.items():
-        return f"text of track {track}: " + (str(parameters) if isinstance(parameters, Refused) else " ".join(f"{k} {v}" for k, v in parameters.items()))
-    return "text: no track has one"
+    """The auxiliary text of the first track that has one."""
+    if not texts:
+        return "text: no track has one"
+    track, parameters = next(iter(texts.items()))
+    return f"text of track {track}: " + (str(parameters) if isinstance(parameters, Refused) else " ".join(f"{k} {v}" for k, v in parameters.items()))
 
 
 def locator_line(library, told):
@@ -97,11 +99,13 @@ def locator_line(library, told):
 def lines(library, told):
     """The account, line by line."""
     long = len(told.data) > LIMIT
-    yield f"list: {told.listing[-1]}" + (f", as it has {len(told.data)} bytes" if long else "")
+    *listed, last = told.listing
+    yield f"list: {last}" + (f", as it has {len(told.data)} bytes" if long else "") + (f": {count(line.split()[1] for line in listed)}" if listed else "")
     if long:
         yield f"check of its first {LIMIT} bytes: {verdict(library.check(told.path, told.lent))}"
     yield f"check{', from C' if long else ''}: {verdict(told.verdict)}"
-    yield f"packets: {count(told.packets)}"
+    if not listed:
+        yield f"packets, from C: {count(p.kind for p in told.packets)}"
     walked, end = library.walk(told.lent, len(told.packets) + 1)
     yield f"walker: {len(walked)} steps, then {end}"
     if isinstance(told.map, Refused):

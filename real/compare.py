@@ -20,7 +20,8 @@ LINES = {1: 525, 2: 625, 4: 1080, 6: 720}
 SYSTEM = {480: 525, 512: 525, 576: 625, 608: 625, 1080: 1080, 720: 720}
 UMF = ("timecode_at_mark_in", "timecode_at_mark_out")
 TIME_TAGS = ("timecode", *UMF)
-COLOUR = {"1": "4:2:0", "2": "4:2:2"}
+# Table 7: Cf to ffmpeg's names of 4:2:0 and 4:2:2
+CHROMA = {"1": "yuv420p", "2": "yuv422p"}
 
 
 class Found(NamedTuple):
@@ -77,11 +78,12 @@ def raster(track, stream):
 
 def text(stream, parameters):
     """The auxiliary text against what ffprobe found in the pictures."""
-    if parameters is None or isinstance(parameters, Refused):
-        return
-    yield Found("encoded lines", 16 * int(parameters["nl16"]), stream["height"])
-    yield Found("colour", COLOUR[parameters["Cf"]], {"yuv420p": "4:2:0", "yuv422p": "4:2:2"}.get(stream["pix_fmt"]))
-    yield Found("aspect", "16:9" if parameters["ar"] == "1" else "4:3", stream["display_aspect_ratio"], "aspect" if parameters["ar"] == "0" else "")
+    if isinstance(parameters, Refused):
+        yield Found("auxiliary text", str(parameters), "read")
+    elif parameters is not None:
+        yield Found("encoded lines", 16 * int(parameters["nl16"]), stream.get("height"))
+        yield Found("colour", CHROMA[parameters["Cf"]], stream.get("pix_fmt"))
+        yield Found("aspect", "16:9" if parameters["ar"] == "1" else "4:3", stream.get("display_aspect_ratio"), "aspect" if parameters["ar"] == "0" else "")
 
 
 def extent(chart, stream):
@@ -110,7 +112,7 @@ def time_code(aux):
 
 def names(told, read):
     """The map's names against all that ffprobe has in tags, its time codes aside."""
-    ours = (told.map.name is not None) + len(told.names)
+    ours = (told.map.name is not None) + sum(isinstance(name, str) for name in told.names.values())
     theirs = sum(len(s.get("tags", {})) for s in read.streams) + sum(k not in TIME_TAGS for k in read.tags)
     yield Found("number of names", ours, theirs, "names" if theirs == 0 else "")
 
@@ -125,17 +127,15 @@ def material(told, read):
 
 
 def carried(library, told, read):
-    """Track and field by the place of each media packet: by its preamble, or, of a packet too long for the probe, by the seek in C that ends at it."""
+    """Track and field of ffprobe's packets, by the preamble that stands at their place; of a packet too long for the probe they are those that ffprobe
+    says if the seek of them ends at that place, or unknown. In a refused stream nothing can be sought, and such packets are left out."""
     known = {p.at: (m.id, m.field) for p, m in told.media if isinstance(m, Preamble)}
-    if isinstance(told.verdict, Refused):
-        return known
-    for packet in read.packets:
-        if place(packet) not in known:
-            pair = (told.map.tracks[packet["stream_index"]].id, packet["dts"])
-            at = library.seek(told.path, told.data, *pair)
-            if not isinstance(at, Refused):
-                known.setdefault(at, pair)
-    return known
+    for q in read.packets:
+        if place(q) in known:
+            yield known[place(q)], q
+        elif not isinstance(told.verdict, Refused):
+            pair = (told.map.tracks[q["stream_index"]].id, q["dts"])
+            yield pair if library.seek(told.path, told.data, *pair) == place(q) else (None, None), q
 
 
 def place(packet):
@@ -149,8 +149,7 @@ def packets(library, told, read):
     yield Found("number of media packets", len(told.media), len(theirs))
     yield Found("places", [p.at for p, _ in told.media], [place(q) for q in theirs])
     yield Found("lengths", [p.length - 32 for p, _ in told.media], [int(q["size"]) for q in theirs])
-    known = carried(library, told, read)
-    pairs = [(known[place(q)], q) for q in theirs if place(q) in known]
+    pairs = list(carried(library, told, read))
     if pairs:
         yield Found("track numbers", [track for (track, _), _ in pairs], [q["stream_index"] for _, q in pairs])
         yield Found("field numbers", [field for (_, field), _ in pairs], [q["dts"] for _, q in pairs])

@@ -1,6 +1,7 @@
 """./gxf real: makes GXF streams with ffmpeg, and tells what the library and ffmpeg's own reader say of each."""
 import os
 import re
+import shlex
 import subprocess
 import sys
 from collections import Counter
@@ -9,7 +10,7 @@ import account
 import compare
 import reader
 import streams
-from library import Library, Refused
+from library import Library
 
 
 def explained(top):
@@ -43,7 +44,7 @@ def one(library, stream, folder, kinds):
     path = streams.make(stream, folder)
     told = account.gather(library, path)
     read = reader.read(path)
-    print(f"\n{account.short(stream.name)}: {stream.what}")
+    print(f"\n{account.short(stream.name)}: {stream.what}\n  ffmpeg {shlex.join(streams.asked(stream))}")
     for line in account.lines(library, told):
         print(f"  {line}")
     print(f"  ffprobe: streams {len(read.streams)}, packets {len(read.packets)}{says(read)}")

@@ -24,7 +24,7 @@ STREAMS = [
     Stream("ntsc_mpeg2", "MPEG-2, 525 lines", GREY + NTSC, 0, f"{MPEG2} -b:v 1M -frames:v 9"),
     Stream("pal_422_intra", "MPEG-2 4:2:2, 625 lines, I pictures only", GREY + PAL, 0, f"{MPEG2} -pix_fmt yuv422p -g 1 -q:v 31 -frames:v 4"),
     Stream("pal_interlaced", "MPEG-2, 625 lines, interlaced, 16:9", MOVING + PAL, 0,
-           f"{MPEG2} -flags:v +ildct+ilme+bitexact -top 1 -aspect 16:9 -q:v 31 -frames:v 2"),
+           f"{MPEG2} -flags:v +ildct+ilme -top 1 -aspect 16:9 -q:v 31 -frames:v 2"),
     Stream("pal_vbi", "MPEG-2, 625 lines with 32 of the blanking", GREY + "size=720x608:rate=25", 0, f"{MPEG2} -b:v 1M -frames:v 3"),
     Stream("ntsc_film", "MPEG-2 of 23.98 frames a second, 480 lines", GREY + "size=720x480:rate=24000/1001", 0, f"{MPEG2} -frames:v 6"),
     Stream("pal_mpeg1", "MPEG-1, 625 lines", GREY + PAL, 0, f"{MPEG1} -b:v 1M -frames:v 10"),
@@ -51,20 +51,22 @@ STREAMS = [
 DAMAGED = [("pal_mpeg2", 4), ("ntsc_mpeg1", 9), ("pal_mjpeg", 15)]
 
 
-def words(stream):
-    """The words for ffmpeg; -bitexact and one thread, so that a stream is the same each time."""
-    inputs = [w for source in [stream.picture] if source for w in ("-f", "lavfi", "-i", source)]
-    tones = ["-f", "lavfi", "-i", "sine=frequency=1000:sample_rate=48000"] if stream.tones else []
-    tone = str(1 if stream.picture else 0)
-    maps = (["-map", "0"] if stream.picture else []) + stream.tones * ["-map", tone]
-    sound = ["-c:a", "pcm_s16le", "-ac", "1"] if stream.tones else []
-    exact = ["-threads", "1", "-fflags", "+bitexact", "-flags:a", "+bitexact"]
-    exact += [] if "-flags:v" in stream.options else ["-flags:v", "+bitexact"]
-    return ["ffmpeg", "-nostdin", "-v", "error", "-y", *inputs, *tones, *maps, *stream.options.split(), *sound, *exact]
+def asked(stream):
+    """The words for ffmpeg; +bitexact and one thread, so that a stream is the same each time."""
+    sources = [stream.picture] if stream.picture else []
+    tracks = ["0"] if stream.picture else []
+    sound = []
+    if stream.tones:
+        tracks += stream.tones * [str(len(sources))]
+        sources.append("sine=frequency=1000:sample_rate=48000")
+        sound = ["-c:a", "pcm_s16le", "-ac", "1", "-flags:a", "+bitexact"]
+    inputs = [w for source in sources for w in ("-f", "lavfi", "-i", source)]
+    maps = [w for track in tracks for w in ("-map", track)]
+    return [*inputs, *maps, *stream.options.split(), *sound, "-flags:v", "+bitexact", "-fflags", "+bitexact", "-threads", "1"]
 
 
 def make(stream, folder):
     """Makes a stream in the folder and gives its path."""
     path = os.path.join(folder, stream.name + ".gxf")
-    subprocess.run([*words(stream), path], check=True, stdin=subprocess.DEVNULL)
+    subprocess.run(["ffmpeg", "-nostdin", "-v", "error", "-y", *asked(stream), path], check=True)
     return path
