@@ -9,6 +9,7 @@ use borrow.Author.Tests.{lt-ltb, le-ltb, eq-eqb, ne-eqb, ltb-true, eqb-true, eqb
 use lib.Dec.{eqb, ltb}
 use Rattle.plate.specs.Choice.{pick}
 use Rattle.plate.specs.Plate.{refusal}
+use Rattle.plate.proofs.Tests.{no-choice}
 use Rattle.number.specs.Number.{le}
 use Rattle.number.proofs.Laws.{Bytes, le-four}
 use Rattle.media_type.specs.MediaType.{knownType}
@@ -164,11 +165,7 @@ module _ (s : List ℕ) (track field n last : ℕ) (room : n * 16 + 16 ≤ lengt
   on-next q = rw (next s n last (omega arith) f, first s n last (omega arith) f track field, q)
 
   pub other-field : (le s (n * 16 + 4) 4 ≡ field → ⊥) → answerFrom s track field n last ≡ answerFrom s track field (n + 1) (le s (n * 16 + 8) 8)
-  other-field h = on-next (rw (ne-eqb (le s (n * 16 + 4) 4) field h) (go (eqb (getD s (n * 16 + 2) 0) track)))
-    where
-      go : (b : Bool) → pick b false false ≡ false
-      go true = refl
-      go false = refl
+  other-field h = on-next (rw (ne-eqb (le s (n * 16 + 4) 4) field h) (no-choice (eqb (getD s (n * 16 + 2) 0) track) false))
 
   pub other-track : (getD s (n * 16 + 2) 0 ≡ track → ⊥) → answerFrom s track field n last ≡ answerFrom s track field (n + 1) (le s (n * 16 + 8) 8)
   other-track h = on-next (rw (ne-eqb (getD s (n * 16 + 2) 0) track h))

@@ -38,7 +38,7 @@ pub enum Run {
     Refused(Refusal),
 }
 
-// Whether a packet carries a field of a track: its type is known, its ID is the track's and its number is the field's.
+// Whether a packet carries a field of a track: its type is known, its ID is the track's and its number is the field's. Most packets have another number.
 fn carries(x: Piece, track: u64, field: u64) -> bool
     ensures { λ r. ⌜ r ≡ carriesPiece track field x ⌝ }
 {
@@ -46,10 +46,10 @@ fn carries(x: Piece, track: u64, field: u64) -> bool
     if x.role != packet::MEDIA {
         return false;
     }
-    if x.track as u64 != track {
+    if x.field as u64 != field {
         return false;
     }
-    if x.field as u64 != field {
+    if x.track as u64 != track {
         return false;
     }
     media_type::is_known(kind)

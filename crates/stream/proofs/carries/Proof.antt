@@ -2,6 +2,10 @@ use borrow.Author.Needs.{needs}
 use Rattle.stream.proofs.carries.Statement.{statement}
 use Rattle.stream.proofs.carries.Tie as tie
 use borrow.Author.Tests.{eq-eqb, ne-eqb}
+use mathlib.Core.Path.{sym}
+use mathlib.Core.Bool.{false}
+use lib.Dec.{eqb}
+use Rattle.plate.proofs.Tests.{no-choice}
 use Rattle.stream.specs.Stream.{carriesPiece}
 
 returns : tie.Need-returns
@@ -13,14 +17,14 @@ cast-if2 c = search needs
 
 returns-2 : tie.Need-returns-2
 unfolding carriesPiece
-returns-2 c = rw (eq-eqb _ _ (c .before .before .if1 .left), ne-eqb _ _ (c .if2 .taken))
+returns-2 c = rw (eq-eqb _ _ (c .before .before .if1 .left), ne-eqb _ _ (c .if2 .taken)) (let a = c .before .before .before .before .args in sym (no-choice (eqb (a .x .track) (a .track)) false))
 
 cast-if3 : tie.Need-cast-if3
 cast-if3 c = search needs
 
 returns-3 : tie.Need-returns-3
 unfolding carriesPiece
-returns-3 c = rw (eq-eqb _ _ (c .before .before .before .before .if1 .left), eq-eqb _ _ (c .before .before .if2 .left), ne-eqb _ _ (c .if3 .taken))
+returns-3 c = rw (eq-eqb _ _ (c .before .before .before .before .if1 .left), ne-eqb _ _ (c .if3 .taken))
 
 is-known-requires : tie.Need-is-known-requires
 is-known-requires c κs = search needs
