@@ -83,6 +83,7 @@ static ALWAYS u32 walk_items(const u8 *p, u32 at, u32 end, int in_track, u32 *pl
     return 0;
 }
 
+/* Both stay functions, and the first tests nothing for what it does not keep. */
 static u32 items_fault(const u8 *p, u32 at, u32 end, int in_track, u32 *place) { return walk_items(p, at, end, in_track, place, 0); }
 
 static u32 material_fault(const u8 *p, u32 at, u32 end, u32 *place, struct map_reading *says) { return walk_items(p, at, end, 0, place, says); }
@@ -277,7 +278,8 @@ struct reading c_lookup(const u8 *b, u64 n, u64 track, u64 field)
     return found ? yes(first) : no(16, 0);
 }
 
-/* Refusals 1 to 6 of the packet at the start, then those of the map. */
+/* Refusals 1 to 6 of the packet at the start, then those of the map. The header's tests stand here once more: shared with `run` they cost it up to two
+ * instructions a packet. */
 static ALWAYS struct reading map_at_start(const u8 *s, u64 n, struct map_reading *says)
 {
     u32 len;
