@@ -1,6 +1,6 @@
-/* Runs one job once on a file: ./count JOB FILE [stack], where JOB is a function of versions.h. It prints number, place and value and, with the word
- * stack, how many bytes of stack the call used: what lies below is painted before, and looked at after, which the counter of instructions does not
- * allow. That counter looks at the job's function alone. */
+/* Runs one job once on a file: ./count JOB FILE [stack], where JOB is a function of versions.h. The file is a stream, of look-up a seek book, of map a map. It
+ * prints the answer, number and place first; of build also a sum over the buffer. With the word stack it prints how many bytes of stack the call used: what lies
+ * below is painted before, and looked at after, which the counter of instructions does not allow. That counter looks at the job's function alone. */
 #include <stdio.h>
 #include <stdlib.h>
 #include <string.h>
@@ -44,54 +44,67 @@ static inline __attribute__((always_inline)) long used(volatile u8 *top)
     return i;
 }
 
-static int find(const char *job)
+enum { CHECK, SEEK, BUILD, LOOKUP, MAP_READER, JOBS };
+
+/* A job's number, and 1 in `by_hand` where it is the C version. */
+static int find(const char *job, int *by_hand)
 {
-    static const char *const names[] = {"gxf_check", "c_check", "gxf_seek", "c_seek", "gxf_build", "c_build", "gxf_lookup", "c_lookup"};
+    static const char *const names[] = {"check", "seek", "build", "lookup", "map"};
     int i;
-    for (i = 0; i < 8; i++)
-        if (strcmp(job, names[i]) == 0)
+    *by_hand = strncmp(job, "c_", 2) == 0;
+    if (!*by_hand && strncmp(job, "gxf_", 4) != 0)
+        return -1;
+    for (i = 0; i < JOBS; i++)
+        if (strcmp(job + (*by_hand ? 2 : 4), names[i]) == 0)
             return i;
     return -1;
 }
 
+static void say(u64 word) { printf("%llu ", (unsigned long long)word); }
+
 int main(int argc, char **argv)
 {
-    const char *job = argc >= 3 ? argv[1] : "";
-    struct reading r, made;
-    u64 n, room;
+    struct reading r = {0, 0, 0};
+    struct map_reading m;
+    u64 n, i, sum = 0;
     u8 *s, *book;
     volatile u8 *top = NULL;
     long depth = 0;
-    int which, painted = argc == 4;
-    if (argc < 3 || argc > 4 || (s = load(argv[2], &n)) == NULL) {
+    int which, by_hand, painted = argc == 4;
+    if (argc < 3 || argc > 4 || (which = find(argv[1], &by_hand)) < 0 || (s = load(argv[2], &n)) == NULL) {
         fprintf(stderr, "usage: count JOB FILE [stack]\n");
         return 2;
     }
     /* a packet has 16 bytes at least, so a book is never longer than its stream */
-    room = n;
-    book = calloc(1, room + 1);
+    book = calloc(1, n + 1);
     if (book == NULL)
         return 2;
-    which = find(job);
-    made.value = 0;
-    if (which >= 6)
-        made = c_build(book, room, s, n);
-    /* a track and a field that are not there: the whole of stream and book is read */
     if (painted)
         top = paint();
-    switch (which) {
-    case 0: r = gxf_check(s, n); break;
-    case 1: r = c_check(s, n); break;
-    case 2: r = gxf_seek(s, n, 1, 4000000000); break;
-    case 3: r = c_seek(s, n, 1, 4000000000); break;
-    case 4: r = gxf_build(book, room, s, n); break;
-    case 5: r = c_build(book, room, s, n); break;
-    case 6: r = gxf_lookup(book, 16 * made.value, 1, 4000000000); break;
-    case 7: r = c_lookup(book, 16 * made.value, 1, 4000000000); break;
-    default: return 2;
+    /* a track and a field that are not there: the whole of stream and book is read */
+    switch (2 * which + by_hand) {
+    case 2 * CHECK: r = gxf_check(s, n); break;
+    case 2 * CHECK + 1: r = c_check(s, n); break;
+    case 2 * SEEK: r = gxf_seek(s, n, 1, 4000000000); break;
+    case 2 * SEEK + 1: r = c_seek(s, n, 1, 4000000000); break;
+    case 2 * BUILD: r = gxf_build(book, n, s, n); break;
+    case 2 * BUILD + 1: r = c_build(book, n, s, n); break;
+    case 2 * LOOKUP: r = gxf_lookup(s, n, 1, 4000000000); break;
+    case 2 * LOOKUP + 1: r = c_lookup(s, n, 1, 4000000000); break;
+    case 2 * MAP_READER: m = gxf_map(s, n); break;
+    case 2 * MAP_READER + 1: m = c_map(s, n); break;
     }
     if (painted)
         depth = used(top);
-    printf("%llu %llu %llu %ld\n", (unsigned long long)r.number, (unsigned long long)r.place, (unsigned long long)r.value, depth);
+    if (which == MAP_READER) {
+        say(m.number), say(m.place), say(m.count), say(m.name), say(m.name_length);
+        for (i = 0; i < 5; i++)
+            say(m.numbers[i]);
+    } else {
+        for (i = 0; i < n; i++)
+            sum = 31 * sum + book[i];
+        say(r.number), say(r.place), say(r.value), say(sum);
+    }
+    printf("%ld\n", depth);
     return 0;
 }

@@ -1,6 +1,8 @@
-/* The jobs that are counted, written by hand in C from the rules: check, seek, building a seek book, and looking up in one. They answer and refuse
- * as the library does, with number and place. No header is included: the toolchain's clang has none. */
+/* The jobs that are counted, written by hand in C from the rules: check, seek, building a seek book, looking up in one, and reading a map. They answer and
+ * refuse as the library does, with number and place. No header is included: the toolchain's clang has none. */
 #include "versions.h"
+
+#define ALWAYS inline __attribute__((always_inline))
 
 static inline u32 big16(const u8 *p) { return (u32)p[0] << 8 | p[1]; }
 static inline u32 big32(const u8 *p) { return (u32)p[0] << 24 | (u32)p[1] << 16 | (u32)p[2] << 8 | p[3]; }
@@ -34,8 +36,8 @@ static int good_text(const u8 *v, u32 n)
     return 1;
 }
 
-/* The first fault of the items from at to end, or 0; its place. */
-static u32 items_fault(const u8 *p, u32 at, u32 end, int in_track, u32 *place)
+/* The first fault of the items from at to end, or 0; its place. What material items say goes to `says`, if it is there. */
+static ALWAYS u32 walk_items(const u8 *p, u32 at, u32 end, int in_track, u32 *place, struct map_reading *says)
 {
     u32 seen = 0;
     while (at < end) {
@@ -69,18 +71,30 @@ static u32 items_fault(const u8 *p, u32 at, u32 end, int in_track, u32 *place)
             if (seen & bars)
                 return 10;
             seen |= bit;
+            if (says != 0 && text) {
+                says->name = at + 2;
+                says->name_length = size;
+            } else if (says != 0) {
+                says->numbers[tag - 0x41] = big32(p + at + 2);
+            }
         }
         at += 2 + size;
     }
     return 0;
 }
 
-/* The first fault of a map packet, its place counted from the packet's start; by ID the types that it lists. */
-static struct reading map_fault(const u8 *p, u32 len, u8 *types)
+/* Both stay functions, and the first tests nothing for what it does not keep. */
+static u32 items_fault(const u8 *p, u32 at, u32 end, int in_track, u32 *place) { return walk_items(p, at, end, in_track, place, 0); }
+
+static u32 material_fault(const u8 *p, u32 at, u32 end, u32 *place, struct map_reading *says) { return walk_items(p, at, end, 0, place, says); }
+
+/* The first fault of a map packet, its place counted from the packet's start; by ID the types that it lists, or what it says. */
+static ALWAYS struct reading walk_map(const u8 *p, u32 len, u8 *types, struct map_reading *says)
 {
     u32 a, b, end, f, place;
     u64 ids = 0;
-    __builtin_memset(types, 0, 64);
+    if (types != 0)
+        __builtin_memset(types, 0, 64);
     if (len < 18)
         return no(8, 16);
     if (p[16] != 0xE0)
@@ -88,7 +102,7 @@ static struct reading map_fault(const u8 *p, u32 len, u8 *types)
     if (len < 20 || len - 20 < big16(p + 18))
         return no(8, 18);
     a = 20 + big16(p + 18);
-    if ((f = items_fault(p, 20, a, 0, &place)) != 0)
+    if ((f = says != 0 ? material_fault(p, 20, a, &place, says) : items_fault(p, 20, a, 0, &place)) != 0)
         return no(f, place);
     if (len - a < 2 || len - a - 2 < big16(p + a))
         return no(8, a);
@@ -107,12 +121,16 @@ static struct reading map_fault(const u8 *p, u32 len, u8 *types)
         if ((f = items_fault(p, b + 4, b + 4 + size, 1, &place)) != 0)
             return no(f, place);
         ids |= (u64)1 << (p[b + 1] - 0xC0);
-        if (known(p[b] - 0x80))
+        if (types != 0 && known(p[b] - 0x80))
             types[p[b + 1] - 0xC0] = p[b] - 0x80;
+        if (says != 0)
+            says->count += known(p[b] - 0x80);
         b += 4 + size;
     }
     return no(0, 0);
 }
+
+static struct reading map_fault(const u8 *p, u32 len, u8 *types) { return walk_map(p, len, types, 0); }
 
 /* One pass over a stream: its packets, the first that carries a field of a track, its records. */
 struct pass {
@@ -120,7 +138,7 @@ struct pass {
     int found;
 };
 
-static inline __attribute__((always_inline)) struct reading run(const u8 *s, u64 n, int seeking, u64 track, u64 field, struct pass *out)
+static ALWAYS struct reading run(const u8 *s, u64 n, int seeking, u64 track, u64 field, struct pass *out)
 {
     u8 types[64];
     u64 at = 0, count = 0, since = 0, first = 0, records = 0;
@@ -258,4 +276,33 @@ struct reading c_lookup(const u8 *b, u64 n, u64 track, u64 field)
     if (n % 16 != 0)
         return no(23, i);
     return found ? yes(first) : no(16, 0);
+}
+
+/* Refusals 1 to 6 of the packet at the start, then those of the map. The header's tests stand here once more: shared with `run` they cost it up to two
+ * instructions a packet. */
+static ALWAYS struct reading map_at_start(const u8 *s, u64 n, struct map_reading *says)
+{
+    u32 len;
+    if (n < 16)
+        return no(1, 0);
+    if (__builtin_memcmp(s, "\0\0\0\0\1", 5) != 0)
+        return no(2, 0);
+    if (s[14] != 0xE1 || s[15] != 0xE2)
+        return no(3, 0);
+    len = big32(s + 6);
+    if (len < 16 || len % 4 != 0)
+        return no(4, 0);
+    if (n < len)
+        return no(5, 0);
+    if (s[5] != MAP)
+        return no(6, 0);
+    return walk_map(s, len, 0, says);
+}
+
+struct map_reading c_map(const u8 *s, u64 n)
+{
+    struct map_reading says = {0, 0, 0, 0, 0, {NONE, NONE, NONE, NONE, NONE}};
+    struct reading r = map_at_start(s, n, &says);
+    struct map_reading refused = {r.number, r.place, 0, 0, 0, {0, 0, 0, 0, 0}};
+    return r.number != 0 ? refused : says;
 }

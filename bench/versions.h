@@ -12,15 +12,24 @@ struct reading {
     u64 number, place, value;
 };
 
+/* What a map says: the count of listed tracks; where its name's bytes stand and how many are stored, 0 and 0 where there is none; first and last field, mark
+ * in and out, size, NONE where one is absent. Of a refused map all these are 0. */
+#define NONE 0xFFFFFFFFFFFFFFFFu
+struct map_reading {
+    u64 number, place, count, name, name_length, numbers[5];
+};
+
 struct reading c_check(const u8 *s, u64 n);
 struct reading c_seek(const u8 *s, u64 n, u64 track, u64 field);
 struct reading c_build(u8 *out, u64 room, const u8 *s, u64 n);
 struct reading c_lookup(const u8 *b, u64 n, u64 track, u64 field);
+struct map_reading c_map(const u8 *s, u64 n);
 
-/* The library's, by the crate measure; seek is gxf_seek of include/lumperki.h. */
+/* The library's, by the crates measure, measure_book and measure_map; seek is gxf_seek of include/lumperki.h. */
 struct reading gxf_check(const u8 *s, u64 n);
 struct reading gxf_seek(const u8 *s, u64 n, u64 track, u64 field);
 struct reading gxf_build(u8 *out, u64 room, const u8 *s, u64 n);
 struct reading gxf_lookup(const u8 *b, u64 n, u64 track, u64 field);
+struct map_reading gxf_map(const u8 *s, u64 n);
 
 #endif

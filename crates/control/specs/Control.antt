@@ -1,5 +1,4 @@
 -- What C sees of each answer (01, "The control program is in C"): number 0, place 0 and the values; or a number of the plate, its place, and zeros for the values.
-use Rattle.plate.specs.declared.Refusal.{Refusal}
 use Rattle.packet.specs.declared.PacketAnswer.{PacketAnswer}
 use Rattle.packet.specs.declared.PacketAnswer.the-variants as packet
 use Rattle.locator.specs.declared.PositionAnswer.{PositionAnswer}
@@ -7,21 +6,19 @@ use Rattle.locator.specs.declared.PositionAnswer.the-variants as position
 use Rattle.stream.specs.declared.SeekAnswer.{SeekAnswer}
 use Rattle.stream.specs.declared.SeekAnswer.the-variants as seek
 use Rattle.control.specs.declared.GxfPacket.{GxfPacket}
-use Rattle.control.specs.declared.GxfOffset.{GxfOffset}
+use Rattle.for_c.specs.declared.GxfValue.{GxfValue}
+use Rattle.for_c.specs.ForC.{answeredForC, refusedForC}
 
 -- a whole packet's type and length
 unfoldable pub headerForC : PacketAnswer → GxfPacket
 headerForC (packet.Whole p) = record { number = 0; place = 0; kind = p .kind; len = p .len }
 headerForC (packet.Refused r) = record { number = r .number; place = r .place; kind = 0; len = 0 }
 
--- a refusal, where an offset was asked for
-abbrev pub noOffset : Refusal → GxfOffset
-noOffset r = record { number = r .number; place = r .place; offset = 0 }
+-- a byte's offset in the stream
+unfoldable pub positionForC : PositionAnswer → GxfValue
+positionForC (position.At o) = answeredForC o
+positionForC (position.Refused r) = refusedForC r
 
-unfoldable pub positionForC : PositionAnswer → GxfOffset
-positionForC (position.At o) = record { number = 0; place = 0; offset = o }
-positionForC (position.Refused r) = noOffset r
-
-unfoldable pub seekForC : SeekAnswer → GxfOffset
-seekForC (seek.At o) = record { number = 0; place = 0; offset = o }
-seekForC (seek.Refused r) = noOffset r
+unfoldable pub seekForC : SeekAnswer → GxfValue
+seekForC (seek.At o) = answeredForC o
+seekForC (seek.Refused r) = refusedForC r

@@ -1,5 +1,6 @@
 // The functions for C: the header, the position by a locator table, and seek, on numbers and byte slices. include/lumperki.h declares them.
 // A slice is a pointer and a length in C. Every answer is a struct by value: number 0 and the values, or a number of the plate and its place.
+use for_c::GxfValue;
 use locator::PositionAnswer;
 use packet::PacketAnswer;
 use stream::SeekAnswer;
@@ -16,14 +17,6 @@ pub struct GxfPacket {
     pub place: u64,
     pub kind: u64,
     pub len: u64,
-}
-
-// A byte's offset in a stream.
-#[repr(C)]
-pub struct GxfOffset {
-    pub number: u64,
-    pub place: u64,
-    pub offset: u64,
 }
 
 // The header at a position: refusals 1 to 5.
@@ -53,44 +46,22 @@ pub extern "C" fn gxf_header(s: &[u8], at: usize) -> GxfPacket
 
 // The position for a distance in fields, by the FLT packet at a position: refusals 1 to 6, 8, 14, 15, 16.
 #[no_mangle]
-pub extern "C" fn gxf_position(s: &[u8], at: usize, distance: u64) -> GxfOffset
+pub extern "C" fn gxf_position(s: &[u8], at: usize, distance: u64) -> GxfValue
     ensures { λ r. ⌜ r ≡ positionForC (positionAt (now (s .entry)) at distance) ⌝ }
 {
     match locator::position(s, at, distance) {
-        PositionAnswer::At(o) => GxfOffset {
-            number: 0,
-            place: 0,
-            offset: o,
-        },
-        PositionAnswer::Refused(r) => {
-            GxfOffset {
-                number: r.number as u64,
-                place: r.place as u64,
-                offset: 0,
-            }
-        }
+        PositionAnswer::At(o) => for_c::answered(o),
+        PositionAnswer::Refused(r) => for_c::refused(r),
     }
 }
 
 // The offset of the first packet that carries a field of a track: the refusals of the check, then 16.
 #[no_mangle]
-pub extern "C" fn gxf_seek(s: &[u8], track: u64, field: u64) -> GxfOffset
+pub extern "C" fn gxf_seek(s: &[u8], track: u64, field: u64) -> GxfValue
     ensures { λ r. ⌜ r ≡ seekForC (seekOf (now (s .entry)) track field) ⌝ }
 {
     match stream::seek(s, track, field) {
-        SeekAnswer::At(o) => {
-            GxfOffset {
-                number: 0,
-                place: 0,
-                offset: o as u64,
-            }
-        }
-        SeekAnswer::Refused(r) => {
-            GxfOffset {
-                number: r.number as u64,
-                place: r.place as u64,
-                offset: 0,
-            }
-        }
+        SeekAnswer::At(o) => for_c::answered(o as u64),
+        SeekAnswer::Refused(r) => for_c::refused(r),
     }
 }

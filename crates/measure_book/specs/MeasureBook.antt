@@ -1,8 +1,9 @@
--- What C sees of the answer whose instructions are counted (docs/DECISIONS.md, S24): number 0, place 0 and the number of records; the buffer is the builder's; or a number of the plate, its place, and 0.
+-- What C sees of the answer whose instructions are counted (docs/DECISIONS.md, S24): the value is the number of records; the buffer is the builder's.
 use Rattle.book_builder.specs.declared.BuildAnswer.{BuildAnswer}
 use Rattle.book_builder.specs.declared.BuildAnswer.the-variants as build
-use Rattle.measure_book.specs.declared.Reading.{Reading}
+use Rattle.for_c.specs.declared.GxfValue.{GxfValue}
+use Rattle.for_c.specs.ForC.{answeredForC, refusedForC}
 
-unfoldable pub buildReading : BuildAnswer → Reading
-buildReading (build.Records n) = record { number = 0; place = 0; value = n }
-buildReading (build.Refused r) = record { number = r .number; place = r .place; value = 0 }
+unfoldable pub buildReading : BuildAnswer → GxfValue
+buildReading (build.Records n) = answeredForC n
+buildReading (build.Refused r) = refusedForC r

@@ -10,20 +10,31 @@ position-requires c κs = search needs
 enum-known-o : tie.Need-enum-known-o
 enum-known-o c = search needs
 
+answered-requires : tie.Need-answered-requires
+answered-requires c κs = search needs
+
 enum-known-r : tie.Need-enum-known-r
 enum-known-r c = search needs
 
-cast-t8 : tie.Need-cast-t8
-cast-t8 c = search needs
+refused-requires : tie.Need-refused-requires
+refused-requires c κs = search needs
 
 returns : tie.Need-returns
 unfolding positionForC
-returns c = simp (sym (c .before .before .before .position .ensures) ∙ c .before .o .given .1)
+returns c = simp (c .answered .ensures, sym (c .before .before .before .before .position .ensures) ∙ c .before .before .o .given .1)
 
 returns-2 : tie.Need-returns-2
 unfolding positionForC
-returns-2 c = simp (sym (c .before .before .before .before .position .ensures) ∙ c .before .before .r .given .1)
+returns-2 c = simp (c .refused .ensures, sym (c .before .before .before .before .position .ensures) ∙ c .before .before .r .given .1)
 
 pub gxf-position-spec : {M : Type 1} → statement M
 gxf-position-spec =
-    tie.close (tie.spec position-requires enum-known-o enum-known-r cast-t8 returns returns-2)
+    tie.close
+    (tie.spec
+    position-requires
+    enum-known-o
+    answered-requires
+    enum-known-r
+    refused-requires
+    returns
+    returns-2)

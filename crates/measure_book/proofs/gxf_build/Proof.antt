@@ -10,25 +10,28 @@ build-requires c κs = search needs
 enum-known-n : tie.Need-enum-known-n
 enum-known-n c = search needs
 
+answered-requires : tie.Need-answered-requires
+answered-requires c κs = search needs
+
 enum-known-r : tie.Need-enum-known-r
 enum-known-r c = search needs
 
-cast-t10 : tie.Need-cast-t10
-cast-t10 c = search needs
+refused-requires : tie.Need-refused-requires
+refused-requires c κs = search needs
 
 same-length : tie.Need-same-length
 same-length c = search needs
 
 returns : tie.Need-returns
 unfolding buildReading
-returns c = (simp (sym (c .before .before .before .before .before .build .ensures .0) ∙ c .before .n .given .1), c .before .before .before .before .before .build .ensures .1)
+returns c = (simp (c .answered .ensures, sym (c .before .before .before .before .before .before .build .ensures .0) ∙ c .before .before .n .given .1), c .before .before .before .before .before .before .build .ensures .1)
 
 same-length-2 : tie.Need-same-length-2
 same-length-2 c = search needs
 
 returns-2 : tie.Need-returns-2
 unfolding buildReading
-returns-2 c = (simp (sym (c .before .before .before .before .before .before .build .ensures .0) ∙ c .before .before .r .given .1), c .before .before .before .before .before .before .build .ensures .1)
+returns-2 c = (simp (c .refused .ensures, sym (c .before .before .before .before .before .before .build .ensures .0) ∙ c .before .before .r .given .1), c .before .before .before .before .before .before .build .ensures .1)
 
 pub gxf-build-spec : {M : Type 1} → statement M
 gxf-build-spec =
@@ -36,8 +39,9 @@ gxf-build-spec =
     (tie.spec
     build-requires
     enum-known-n
+    answered-requires
     enum-known-r
-    cast-t10
+    refused-requires
     same-length
     returns
     same-length-2
