@@ -4,11 +4,11 @@ use mathlib.Core.Path.{_≡_, refl, _∙_, ap}
 use mathlib.Core.Bool.{Bool, true, false}
 use mathlib.Core.List.{List, [], _∷_, _++_, append-assoc, append-nil}
 use native.Mathlib.Omega.{arith}
-use lib.ListN.{length, set, replicate, length-append}
+use lib.ListN.{length, getD, set, replicate, length-append}
 use native.Mathlib.Nat.{zero-add}
 use lib.Seq.{sets, sets-eq}
-use lib.Dec.{eqb}
-use borrow.Author.Tests.{lt-ltb, le-ltb, eq-eqb, ne-eqb}
+use lib.Dec.{eqb, ltb}
+use borrow.Author.Tests.{lt-ltb, le-ltb, ltb-true, ltb-false}
 use Rattle.plate.specs.Choice.{pick}
 use Rattle.plate.specs.Plate.{refusal}
 use Rattle.plate.specs.declared.Refusal.{Refusal}
@@ -17,66 +17,159 @@ use Rattle.number.proofs.Laws.{length-leBytes}
 use Rattle.number.proofs.Stores.{sets-append}
 use Rattle.piece.specs.Piece.{pieceAt}
 use Rattle.piece.specs.declared.Piece.{Piece}
+use Rattle.piece.specs.declared.PieceAnswer.{PieceAnswer}
 use Rattle.piece.specs.declared.PieceAnswer.the-variants as piece
-use Rattle.piece.proofs.Laws.{told}
-use Rattle.stream.specs.Stream.{Packets, closed, none, typesAfter, onPiece, packetsFrom, packets, checkOf}
+use Rattle.piece.proofs.Laws.{Told, told}
+use Rattle.order.specs.Order.{started, misplaced, overdue, unmapped, after, ending, stepOf}
+use Rattle.order.specs.declared.Progress.{Progress}
+use Rattle.order.specs.declared.Step.{Step}
+use Rattle.order.specs.declared.Step.the-variants as step
+use Rattle.stream.specs.Stream.{Placed, Packets, closed, none, before, typesAfter, onPiece, packetsFrom, packets, onStep, stepAt, judge, checkOf}
 use Rattle.stream.proofs.Laws.{turn, out}
 use Rattle.stream.specs.declared.CheckAnswer.the-variants as check
 use Rattle.book.specs.Book.{recordBytes, bytesOf}
 use Rattle.book.specs.declared.Entry.{Entry}
 use Rattle.book.proofs.Coding.{length-bytes}
-use Rattle.book_builder.specs.BookBuilder.{recorded, entryOf, entriesHere, entriesOf, entriesIn, buildAnswer, builtIn}
+use Rattle.book_builder.specs.BookBuilder.{recorded, entryOf, entriesHere, entriesOf, entriesIn, Accepted, Seeable, seenAt, buildAnswer, builtIn}
+use Rattle.book_builder.proofs.Seen.{seen}
 use Rattle.book_builder.specs.declared.BuildAnswer.the-variants as build
 
+-- the packets from here on pass, after some progress
+pub record Passing (s : List ℕ) (ps : Packets) : Type 0 where
+  pub progress : Progress
+  pub packets : ℕ
+  pub judged : judge (length s) progress (ps .list) (ps .end) ≡ check.Packets packets
+
+-- a stream does not end where bytes follow
+no-end : (p : Progress) (x : Piece) (at listed n : ℕ) → stepOf p x at listed true ≡ step.Ended n → ⊥
+unfolding stepOf ending
+no-end p x at listed n = go (misplaced (p .due) (p .flt) (x .role)) (overdue (p .since) (x .role)) (unmapped (x .role) (x .kind) listed) (eqb (x .role) 0xFB)
+  where
+    go : (a b d f : Bool)
+        → pick a (step.Refused (refusal 19 at))
+        (pick b (step.Refused (refusal 20 at)) (pick d (step.Refused (refusal 22 at)) (pick f (step.Refused (refusal 18 at)) (step.Next (after p (x .role)))))) ≡ step.Ended n
+        → ⊥
+    go true b d f e = let z : _≡_ {A = ℕ} 0 1 = cc in absurd (omega arith)
+    go false true d f e = let z : _≡_ {A = ℕ} 0 1 = cc in absurd (omega arith)
+    go false false true f e = let z : _≡_ {A = ℕ} 0 1 = cc in absurd (omega arith)
+    go false false false true e = let z : _≡_ {A = ℕ} 0 1 = cc in absurd (omega arith)
+    go false false false false e = let z : _≡_ {A = ℕ} 0 1 = cc in absurd (omega arith)
+
+-- of packets that pass, the first is whole, and where bytes follow it the rest pass
+passing-whole : (s : List ℕ) (at : ℕ) (types : List ℕ) (next : List ℕ → ℕ → Packets) (a : PieceAnswer) → Passing s (onPiece s at types next a) → (r : Refusal) → a ≡ piece.Refused r → ⊥
+unfolding judge
+passing-whole s at types next a p r e = let j : check.Refused r ≡ check.Packets (p .packets) = rw e at (p .judged) in let z : _≡_ {A = ℕ} 0 1 = cc in absurd (omega arith)
+
+passing-next : (s : List ℕ) (x : Placed) (ps : Packets) → Passing s (before x ps) → x .at + x .piece .len < length s → Passing s ps
+unfolding judge
+passing-next s x ps p h = go (stepAt (length s) (p .progress) x) refl (p .judged)
+  where
+    go : (t : Step) → stepAt (length s) (p .progress) x ≡ t → onStep (λ q. judge (length s) q (ps .list) (ps .end)) t ≡ check.Packets (p .packets) → Passing s ps
+    go (step.Next q) e j = record { progress = q; packets = p .packets; judged = j }
+    go (step.Refused r) e j = absurd (let z : _≡_ {A = ℕ} 0 1 = cc in omega arith)
+    go (step.Ended n) e j = absurd (no-end (p .progress) (x .piece) (x .at) (getD (x .types) (x .piece .track) 0) n (rw (lt-ltb (x .at + x .piece .len) (length s) h) at e))
+
+closed-fails : (s : List ℕ) → Passing s (none closed) → ⊥
+unfolding judge
+closed-fails s p = let j = p .judged in let z : _≡_ {A = ℕ} 0 1 = cc in absurd (omega arith)
+
 -- the entries done, and what is left to do from an offset on
-pub record Left (s : List ℕ) (at : ℕ) (first : Bool) (done : List Entry) : Type 0 where
+pub record Left (s : List ℕ) (at : ℕ) (done : List Entry) : Type 0 where
+  pub first : Bool
   pub fuel : ℕ
   pub types : List ℕ
   pub enough : length s - at < fuel
   pub same : entriesIn s ≡ done ++ entriesOf (packetsFrom s fuel first types at .list)
+  pub passes : at < length s → Passing s (packetsFrom s fuel first types at)
 
-begin : (s : List ℕ) → Left s 0 true []
-unfolding entriesIn packets
-begin s = record { fuel = suc (length s); types = replicate 64 0; enough = omega arith; same = refl }
+begin : (s : List ℕ) → Accepted s → Left s 0 []
+unfolding entriesIn packets checkOf
+begin s a =
+    record {
+      first = true;
+      fuel = suc (length s);
+      types = replicate 64 0;
+      enough = omega arith;
+      same = refl;
+      passes = λ _. record { progress = started; packets = a .packets; judged = a .passes };
+    }
 
-module _ (s : List ℕ) (at : ℕ) (first : Bool) (done : List Entry) (l : Left s at first done) where
+module _ (s : List ℕ) (at : ℕ) (done : List Entry) (l : Left s at done) where
   pub all-out : length s ≤ at → entriesIn s ≡ done
   unfolding entriesOf
-  all-out h = l .same ∙ rw (out s (l .fuel) first (l .types) at h, append-nil)
+  all-out h = l .same ∙ rw (out s (l .fuel) (l .first) (l .types) at h, append-nil)
 
   module _ (h : at < length s) where
-    now-turn : entriesIn s ≡ done ++ entriesOf (onPiece s at (l .types) (λ now-types next. packetsFrom s (l .fuel - 1) false now-types next) (pieceAt s at first) .list)
-    now-turn = l .same ∙ rw (turn s (l .fuel) first (l .types) at (omega (arith, l .enough)) h)
+    now-turn : packetsFrom s (l .fuel) (l .first) (l .types) at ≡ onPiece s at (l .types) (λ now-types next. packetsFrom s (l .fuel - 1) false now-types next) (pieceAt s at (l .first))
+    now-turn = turn s (l .fuel) (l .first) (l .types) at (omega (arith, l .enough)) h
 
-    pub all-refused : (r : Refusal) → pieceAt s at first ≡ piece.Refused r → entriesIn s ≡ done
+    -- the packet here, as its bytes say
+    abbrev x : Piece
+    x = seenAt s at
+
+    whole-here : (pieceAt s at (l .first) ≡ piece.Whole x) × Seeable s at
+    whole-here = go (pieceAt s at (l .first)) refl
+      where
+        go : (a : PieceAnswer) → pieceAt s at (l .first) ≡ a → (pieceAt s at (l .first) ≡ piece.Whole x) × Seeable s at
+        go (piece.Whole y) e = let w = seen s at (l .first) y e in (e ∙ ap piece.Whole (w .is), w .can)
+        go (piece.Refused r) e = absurd (passing-whole s at (l .types) (λ now-types next. packetsFrom s (l .fuel - 1) false now-types next) (pieceAt s at (l .first)) (rw now-turn at (l .passes h)) r e)
+
+    pub can-see : Seeable s at
+    can-see = whole-here .1
+
+    pub is-told : Told s at x
+    is-told = told s at (l .first) x (whole-here .0)
+
+    abbrev rest : Packets
+    rest = pick (eqb (x .role) 0xFB) (none closed) (packetsFrom s (l .fuel - 1) false (typesAfter s at x (l .types)) (at + x .len))
+
+    here : packetsFrom s (l .fuel) (l .first) (l .types) at ≡ before (record { at = at; piece = x; types = typesAfter s at x (l .types) }) rest
+    here = now-turn ∙ rw (whole-here .0)
+
+    turned : entriesIn s ≡ done ++ entriesHere at x ++ entriesOf (rest .list)
     unfolding entriesOf
-    all-refused r e = now-turn ∙ rw (e, append-nil)
+    turned = l .same ∙ rw (here, append-assoc)
 
-    module _ (x : Piece) (e : pieceAt s at first ≡ piece.Whole x) where
-      abbrev rest : Packets
-      rest = pick (eqb (x .role) 0xFB) (none closed) (packetsFrom s (l .fuel - 1) false (typesAfter s at x (l .types)) (at + x .len))
+    -- the entries of a packet that has passed are among all
+    pub among : length (done ++ entriesHere at x) ≤ length (entriesIn s)
+    among = rw turned (omega (arith, length-append (done ++ entriesHere at x) (entriesOf (rest .list))))
 
-      turned : entriesIn s ≡ done ++ entriesHere at x ++ entriesOf (rest .list)
-      unfolding entriesOf
-      turned = now-turn ∙ rw (e, append-assoc)
+    rest-passes : at + x .len < length s → Passing s rest
+    rest-passes k = passing-next s (record { at = at; piece = x; types = typesAfter s at x (l .types) }) rest (rw here at (l .passes h)) k
 
-      pub all-ended : x .role ≡ 0xFB → entriesIn s ≡ done ++ entriesHere at x
-      unfolding entriesOf
-      all-ended k = turned ∙ rw (eq-eqb (x .role) 0xFB k, append-nil)
+    -- EOS is the last packet, and its end the stream's
+    last : eqb (x .role) 0xFB ≡ true → length s ≤ at + x .len
+    last e = go (ltb (at + x .len) (length s)) refl
+      where
+        go : (b : Bool) → ltb (at + x .len) (length s) ≡ b → length s ≤ at + x .len
+        go true q = absurd (closed-fails s (rw e at (rest-passes (ltb-true (at + x .len) (length s) q))))
+        go false q = ltb-false (at + x .len) (length s) q
 
-      -- the entries of a packet that has passed are among all
-      pub among : length (done ++ entriesHere at x) ≤ length (entriesIn s)
-      among = rw turned (omega (arith, length-append (done ++ entriesHere at x) (entriesOf (rest .list))))
+    pub next : Left s (at + x .len) (done ++ entriesHere at x)
+    next = go (eqb (x .role) 0xFB) refl
+      where
+        types : List ℕ
+        types = typesAfter s at x (l .types)
 
-      pub next : (x .role ≡ 0xFB → ⊥) → Left s (at + x .len) false (done ++ entriesHere at x)
-      next k =
-          let w = told s at first x e in
-          record {
-            fuel = l .fuel - 1;
-            types = typesAfter s at x (l .types);
-            enough = omega (arith, l .enough, w .cut .least, w .cut .within);
-            same = turned ∙ rw (ne-eqb (x .role) 0xFB k);
-          }
+        go : (b : Bool) → eqb (x .role) 0xFB ≡ b → Left s (at + x .len) (done ++ entriesHere at x)
+        go true e =
+            record {
+              first = false;
+              fuel = l .fuel - 1;
+              types = types;
+              enough = omega (arith, l .enough, is-told .cut .least, is-told .cut .within);
+              same = turned ∙ rw (e, out s (l .fuel - 1) false types (at + x .len) (last e));
+              passes = λ k. absurd (omega (arith, last e, k));
+            }
+        go false e =
+            record {
+              first = false;
+              fuel = l .fuel - 1;
+              types = types;
+              enough = omega (arith, l .enough, is-told .cut .least, is-told .cut .within);
+              same = turned ∙ rw e;
+              passes = λ k. rw e at (rest-passes k);
+            }
 
 -- a packet has one record at most
 pub one-here : (at : ℕ) (x : Piece) → length (entriesHere at x) ≤ 1
@@ -96,33 +189,25 @@ unfolding entriesHere
 here-none at x e = rw e
 
 -- a count under way
-pub record Counting (s : List ℕ) (at n : ℕ) (first : Bool) : Type 0 where
+pub record Counting (s : List ℕ) (at n : ℕ) : Type 0 where
   pub done : List Entry
   pub many : n ≡ length done
-  pub left : Left s at first done
+  pub left : Left s at done
 
-pub count-begin : (s : List ℕ) → Counting s 0 0 true
-count-begin s = record { done = []; many = refl; left = begin s }
+pub count-begin : (s : List ℕ) → Accepted s → Counting s 0 0
+count-begin s a = record { done = []; many = refl; left = begin s a }
 
-module _ (s : List ℕ) (at n : ℕ) (first : Bool) (l : Counting s at n first) where
+module _ (s : List ℕ) (at n : ℕ) (l : Counting s at n) where
   pub count-out : length s ≤ at → n ≡ length (entriesIn s)
-  count-out h = rw (all-out s at first (l .done) (l .left) h) (l .many)
+  count-out h = rw (all-out s at (l .done) (l .left) h) (l .many)
 
-  module _ (h : at < length s) where
-    pub count-refused : (r : Refusal) → pieceAt s at first ≡ piece.Refused r → n ≡ length (entriesIn s)
-    count-refused r e = rw (all-refused s at first (l .done) (l .left) h r e) (l .many)
-
-    module _ (x : Piece) (e : pieceAt s at first ≡ piece.Whole x) (k : ℕ) (t : k ≡ length (entriesHere at x)) where
-      pub count-ended : x .role ≡ 0xFB → n + k ≡ length (entriesIn s)
-      count-ended z = rw (all-ended s at first (l .done) (l .left) h x e z) (omega (arith, length-append (l .done) (entriesHere at x), l .many))
-
-      pub count-next : (x .role ≡ 0xFB → ⊥) → Counting s (at + x .len) (n + k) false
-      count-next z =
-          record {
-            done = l .done ++ entriesHere at x;
-            many = omega (arith, length-append (l .done) (entriesHere at x), l .many);
-            left = next s at first (l .done) (l .left) h x e z;
-          }
+  pub count-next : at < length s → (k : ℕ) → k ≡ length (entriesHere at (seenAt s at)) → Counting s (at + seenAt s at .len) (n + k)
+  count-next h k t =
+      record {
+        done = l .done ++ entriesHere at (seenAt s at);
+        many = omega (arith, length-append (l .done) (entriesHere at (seenAt s at)), l .many);
+        left = next s at (l .done) (l .left) h;
+      }
 
 -- a record, byte by byte
 pub record-over : (l : List ℕ) (to : ℕ) (e : Entry)
@@ -148,45 +233,36 @@ bytes-append [] b = refl
 bytes-append (x ∷ a) b = rw (bytes-append a b, append-assoc)
 
 -- a writing under way: the buffer it began with, and what the buffer holds now
-pub record Writing (s : List ℕ) (at to : ℕ) (first : Bool) (old now-out : List ℕ) : Type 0 where
+pub record Writing (s : List ℕ) (at to : ℕ) (old now-out : List ℕ) : Type 0 where
   pub done : List Entry
   pub place : to ≡ 16 * length done
-  pub left : Left s at first done
+  pub left : Left s at done
   pub same : now-out ≡ sets old 0 (bytesOf done)
 
-pub write-begin : (s l : List ℕ) → Writing s 0 0 true l l
+pub write-begin : (s l : List ℕ) → Accepted s → Writing s 0 0 l l
 unfolding bytesOf
-write-begin s l = record { done = []; place = refl; left = begin s; same = refl }
+write-begin s l a = record { done = []; place = refl; left = begin s a; same = refl }
 
-module _ (s : List ℕ) (at to : ℕ) (first : Bool) (old now-out : List ℕ) (l : Writing s at to first old now-out) where
+module _ (s : List ℕ) (at to : ℕ) (old now-out : List ℕ) (l : Writing s at to old now-out) where
   pub write-out : length s ≤ at → now-out ≡ sets old 0 (bytesOf (entriesIn s))
-  write-out h = rw (all-out s at first (l .done) (l .left) h) (l .same)
+  write-out h = rw (all-out s at (l .done) (l .left) h) (l .same)
 
   module _ (h : at < length s) where
-    pub write-refused : (r : Refusal) → pieceAt s at first ≡ piece.Refused r → now-out ≡ sets old 0 (bytesOf (entriesIn s))
-    write-refused r e = rw (all-refused s at first (l .done) (l .left) h r e) (l .same)
+    abbrev entries : List Entry
+    entries = entriesHere at (seenAt s at)
 
-    module _ (x : Piece) (e : pieceAt s at first ≡ piece.Whole x) where
-      pub write-room : to + 16 * length (entriesHere at x) ≤ 16 * length (entriesIn s)
-      write-room = omega (arith, among s at first (l .done) (l .left) h x e, length-append (l .done) (entriesHere at x), l .place)
+    pub write-room : to + 16 * length entries ≤ 16 * length (entriesIn s)
+    write-room = omega (arith, among s at (l .done) (l .left) h, length-append (l .done) entries, l .place)
 
-      module _ (new : List ℕ) (q : new ≡ sets now-out to (bytesOf (entriesHere at x))) where
-        more : new ≡ sets old 0 (bytesOf (l .done ++ entriesHere at x))
-        more =
-            let a : to ≡ 0 + length (bytesOf (l .done)) = omega (arith, length-bytes (l .done), l .place) in
-            q ∙ rw (l .same, a, sets-append (bytesOf (l .done)) old 0 (bytesOf (entriesHere at x)), bytes-append (l .done) (entriesHere at x))
-
-        pub write-ended : x .role ≡ 0xFB → new ≡ sets old 0 (bytesOf (entriesIn s))
-        write-ended z = rw (all-ended s at first (l .done) (l .left) h x e z) more
-
-        pub write-next : (k : ℕ) → k ≡ to + 16 * length (entriesHere at x) → (x .role ≡ 0xFB → ⊥) → Writing s (at + x .len) k false old new
-        write-next k t z =
-            record {
-              done = l .done ++ entriesHere at x;
-              place = omega (arith, length-append (l .done) (entriesHere at x), l .place);
-              left = next s at first (l .done) (l .left) h x e z;
-              same = more;
-            }
+    pub write-next : (new : List ℕ) → new ≡ sets now-out to (bytesOf entries) → (k : ℕ) → k ≡ to + 16 * length entries → Writing s (at + seenAt s at .len) k old new
+    write-next new q k t =
+        let a : to ≡ 0 + length (bytesOf (l .done)) = omega (arith, length-bytes (l .done), l .place) in
+        record {
+          done = l .done ++ entries;
+          place = omega (arith, length-append (l .done) entries, l .place);
+          left = next s at (l .done) (l .left) h;
+          same = q ∙ rw (l .same, a, sets-append (bytesOf (l .done)) old 0 (bytesOf entries), bytes-append (l .done) entries);
+        }
 
 -- the answer and the buffer, by the check and the room
 module _ (l s : List ℕ) where

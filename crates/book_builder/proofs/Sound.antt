@@ -31,7 +31,7 @@ use Rattle.piece.specs.declared.PieceAnswer.{PieceAnswer}
 use Rattle.piece.specs.declared.PieceAnswer.the-variants as piece
 use Rattle.piece.proofs.Laws.{told}
 use Rattle.stream.specs.Stream.{none, closed, runsOut, typesAfter, onPiece, packetsFrom, packets}
-use Rattle.book.specs.Book.{stands, judge, good}
+use Rattle.book.specs.Book.{risesAt, stands, judge, good}
 use Rattle.book.specs.declared.Entry.{Entry}
 use Rattle.book.proofs.Coding.{AllFit}
 use Rattle.book_builder.specs.BookBuilder.{recorded, entryOf, entriesHere, entriesOf, entriesIn}
@@ -127,7 +127,7 @@ module _ (s : List ℕ) (b : Bytes s) (small : length s < 2 ^ 64) where
   -- a packet, and packets behind it
   on-whole : (at : ℕ) (first : Bool) (x : Piece) → pieceAt s at first ≡ piece.Whole x → (n last : ℕ) → Low n last at
       → (es : List Entry) → ((m o : ℕ) → Low m o (at + x .len) → Sound m o es) → Sound n last (entriesHere at x ++ es)
-  unfolding entriesHere judge AllFit stands
+  unfolding entriesHere judge AllFit stands risesAt
   on-whole at first x e n last low es rest = go (recorded x) refl
     where
       go : (t : Bool) → recorded x ≡ t → Sound n last (pick t (entryOf at x ∷ []) [] ++ es)

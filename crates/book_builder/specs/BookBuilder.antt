@@ -1,11 +1,13 @@
 -- The building of a seek book (01, "Stream, seek, book"): the entries of a stream's packets, the answer, and what the lent buffer holds then.
-use Prim.Native.Nat.{ℕ, _*_}
+use mathlib.Core.Path.{_≡_}
+use Prim.Native.Nat.{ℕ, _+_, _*_, _≤_}
 use mathlib.Core.Bool.{Bool, false}
 use mathlib.Core.List.{List, [], _∷_, _++_}
-use lib.ListN.{length, drop}
+use lib.ListN.{length, getD, drop}
 use lib.Dec.{eqb, ltb}
 use Rattle.plate.specs.Choice.{pick}
 use Rattle.plate.specs.Plate.{refusal}
+use Rattle.number.specs.Number.{be}
 use Rattle.media_type.specs.MediaType.{knownType}
 use Rattle.piece.specs.declared.Piece.{Piece}
 use Rattle.stream.specs.Stream.{Placed, packets, checkOf}
@@ -50,3 +52,18 @@ written l bytes (build.Records n) = bytes ++ drop (length bytes) l
 
 unfoldable pub builtIn : List ℕ → List ℕ → List ℕ
 builtIn l s = written l (bytesOf (entriesIn s)) (buildAnswer l s)
+
+-- how the walks behind the check read: the check passes the stream, so that each packet is what its bytes say
+pub record Accepted (s : List ℕ) : Type 0 where
+  pub packets : ℕ
+  pub passes : checkOf s ≡ check.Packets packets
+
+pub record Seeable (s : List ℕ) (at : ℕ) : Type 0 where
+  pub header : at + 16 ≤ length s
+  pub preamble : getD s (at + 5) 0 ≡ 0xBF → at + 32 ≤ length s
+
+unfoldable pub seenAt : List ℕ → ℕ → Piece
+seenAt s at =
+    pick (eqb (getD s (at + 5) 0) 0xBF)
+    (record { role = 0xBF; len = be s (at + 6) 4; kind = getD s (at + 16) 0; track = getD s (at + 17) 0; field = be s (at + 18) 4 })
+    (record { role = getD s (at + 5) 0; len = be s (at + 6) 4; kind = 0; track = 0; field = 0 })

@@ -1,7 +1,6 @@
 // The builder of the seek book: one record a media packet of known type, in stream order, into a lent buffer.
 use book::Entry;
 use piece::Piece;
-use piece::PieceAnswer;
 use plate::Refusal;
 use stream::CheckAnswer;
 ghost use mathlib.Core.Path.{_≡_};
@@ -9,7 +8,7 @@ ghost use Prim.Native.Nat.{_+_, _*_, _≤_};
 ghost use lib.ListN.{length};
 ghost use lib.Seq.{sets};
 ghost use Rattle.book.specs.Book.{recordBytes, bytesOf};
-ghost use Rattle.book_builder.specs.BookBuilder.{recorded, entriesHere, entriesIn, buildAnswer, builtIn};
+ghost use Rattle.book_builder.specs.BookBuilder.{recorded, entriesHere, entriesIn, Seeable, seenAt, Accepted, buildAnswer, builtIn};
 
 // A book of so many records was written.
 pub enum BuildAnswer {
@@ -38,29 +37,44 @@ fn records_of(x: Piece, at: usize) -> usize
     0
 }
 
-// The number of records of a stream, up to EOS or to a packet that `piece_at` refuses.
+// A packet of a stream that the check accepts, by its bytes alone: nothing is tested twice.
+fn seen_at(s: &[u8], at: usize) -> Piece
+    requires { ⌜ Seeable (now s) at ⌝ }
+    ensures { λ r. ⌜ r ≡ seenAt (now (s .entry)) at ⌝ }
+{
+    let role = s[at + 5];
+    let len = number::be4(s, at + 6);
+    if role == packet::MEDIA {
+        let field = number::be4(s, at + 18);
+        return Piece {
+            role: packet::MEDIA,
+            len,
+            kind: s[at + 16],
+            track: s[at + 17],
+            field: field as u32,
+        };
+    }
+    Piece {
+        role,
+        len,
+        kind: 0,
+        track: 0,
+        field: 0,
+    }
+}
+
+// The number of records of a stream that the check accepts.
 fn count(s: &[u8]) -> usize
+    requires { ⌜ Accepted (now s) ⌝ }
     ensures { λ r. ⌜ r ≡ length (entriesIn (now (s .entry))) ⌝ }
 {
     let mut at: usize = 0;
     let mut n: usize = 0;
-    let mut first = true;
     while at < s.len() {
-        match piece::piece_at(s, at, first) {
-            PieceAnswer::Refused(_) => {
-                return n;
-            }
-            PieceAnswer::Whole(x) => {
-                let role = x.role;
-                let e = at + x.len;
-                n += records_of(x, at);
-                if role == packet::EOS {
-                    return n;
-                }
-                at = e;
-                first = false;
-            }
-        }
+        let x = seen_at(s, at);
+        let e = at + x.len;
+        n += records_of(x, at);
+        at = e;
     }
     n
 }
@@ -99,30 +113,18 @@ fn put_records(out: &mut [u8], to: usize, x: Piece, at: usize) -> usize
     to
 }
 
-// Writes the records of a stream, up to EOS or to a packet that `piece_at` refuses.
+// Writes the records of a stream that the check accepts.
 fn write(out: &mut [u8], s: &[u8])
-    requires { ⌜ 16 * length (entriesIn (now s)) ≤ length (now out) ⌝ }
+    requires { ⌜ Accepted (now s) × (16 * length (entriesIn (now s)) ≤ length (now out)) ⌝ }
     ensures { λ _. ⌜ now (out .exit) ≡ sets (now (out .entry)) 0 (bytesOf (entriesIn (now (s .entry)))) ⌝ }
 {
     let mut at: usize = 0;
     let mut to: usize = 0;
-    let mut first = true;
     while at < s.len() {
-        match piece::piece_at(s, at, first) {
-            PieceAnswer::Refused(_) => {
-                return;
-            }
-            PieceAnswer::Whole(x) => {
-                let role = x.role;
-                let e = at + x.len;
-                to = put_records(out, to, x, at);
-                if role == packet::EOS {
-                    return;
-                }
-                at = e;
-                first = false;
-            }
-        }
+        let x = seen_at(s, at);
+        let e = at + x.len;
+        to = put_records(out, to, x, at);
+        at = e;
     }
 }
 

@@ -1,61 +1,56 @@
 use Rattle.book_builder.proofs.count.Statement.{statement}
 use Rattle.book_builder.proofs.count.Tie as tie
+use Rattle.book_builder.proofs.count.Reads as reads
+use Rattle.book_builder.proofs.count.Lts as lts
+use Rattle.book_builder.proofs.records_of.Reads as records-of-reads
+use Rattle.book_builder.proofs.seen_at.Reads as seen-at-reads
 use borrow.Author.Needs.{needs}
 use native.Mathlib.Omega.{arith}
+use native.Mathlib.Omega.{arith}
 use Prim.Native.Nat.{_≤_, _-_}
-use mathlib.Core.Path.{sym, _∙_}
+use mathlib.Core.Path.{ap}
+use Rattle.piece.specs.declared.Piece.{Piece}
 use lib.ListN.{length}
-use Rattle.piece.proofs.Laws.{told}
-use Rattle.book_builder.proofs.Laws.{Counting, count-begin, count-out, count-refused, count-ended, count-next, one-here}
+use Rattle.book_builder.proofs.Laws.{Counting, count-begin, count-out, count-next, can-see, is-told, one-here}
 
 abbrev Inv-loop : tie.InvT-loop
-Inv-loop s at₀ n₀ first₀ at n first = (at ≤ length s) × (n ≤ at) × Counting s at n first
+Inv-loop s at₀ n₀ at n = (at ≤ length s) × (n ≤ at) × Counting s at n
 
 abbrev μ-loop : tie.MeasureT-loop
-μ-loop s at₀ n₀ first₀ at n first = length s - at
+μ-loop s at₀ n₀ at n = length s - at
 
 loop-holds : tie.Need-loop-holds Inv-loop μ-loop
-loop-holds c = (omega arith, omega arith, count-begin _)
+loop-holds c = (omega arith, omega arith, count-begin _ (c .before .pre))
 
-piece-at-requires : tie.Need-piece-at-requires Inv-loop μ-loop
-piece-at-requires c κs = search needs
-
-enum-told : tie.Need-enum-told Inv-loop μ-loop
-enum-told c = search needs
-
-returns : tie.Need-returns Inv-loop μ-loop
-returns c = count-refused _ _ _ _ (c .before .before .before .before .loop .inv .2) (c .before .before .before .loop-test .taken) _ (sym (c .before .before .piece-at .ensures) ∙ c .enum-told .given .1)
-
-enum-known-x : tie.Need-enum-known-x Inv-loop μ-loop
-enum-known-x c = search needs
+seen-at-requires : tie.Need-seen-at-requires Inv-loop μ-loop
+seen-at-requires c κs = can-see _ _ _ (c .before .loop .inv .2 .left) (c .loop-test .taken)
 
 add-e : tie.Need-add-e Inv-loop μ-loop
-add-e c = let w = told _ _ _ _ (sym (c .before .before .before .before .piece-at .ensures) ∙ c .before .before .x .given .1) in omega (arith, w .cut .within)
+add-e c = let l = c .before .before .before .loop in let w = is-told _ _ _ (l .inv .2 .left) (c .before .before .loop-test .taken) in omega (arith, w .cut .within, ap (λ (y : Piece). y .len) (c .before .seen-at .ensures))
 
 records-of-requires : tie.Need-records-of-requires Inv-loop μ-loop
 records-of-requires c κs = search needs
 
 add-n : tie.Need-add-n Inv-loop μ-loop
-add-n c = omega (arith, one-here (c .before .before .before .before .before .before .before .loop .at) (c .before .before .before .x .given .0 .0), c .records-of .ensures)
-
-returns-2 : tie.Need-returns-2 Inv-loop μ-loop
-returns-2 c =
-    count-ended _ _ _ _ (c .before .before .before .before .before .before .before .before .loop .inv .2) (c .before .before .before .before .before .before .before .loop-test .taken) _ (sym (c .before .before .before .before .before .before .piece-at .ensures) ∙ c .before .before .before .before .x .given .1) _ (c .before .records-of .ensures) (c .if1 .taken)
+add-n c = let l = c .before .before .before .before .loop in omega (arith, c .records-of .ensures, one-here (l .at) (c .before .before .seen-at .result))
 
 loop-less : tie.Need-loop-less Inv-loop μ-loop
-loop-less c = let w = told _ _ _ _ (sym (c .before .before .before .before .before .before .piece-at .ensures) ∙ c .before .before .before .before .x .given .1) in omega (arith, w .cut .within, w .cut .least)
+loop-less c = let l = c .before .before .before .before .loop in let w = is-told _ _ _ (l .inv .2 .left) (c .before .before .before .loop-test .taken) in omega (arith, w .cut .within, w .cut .least, ap (λ (y : Piece). y .len) (c .before .before .seen-at .ensures))
 
 loop-again : tie.Need-loop-again Inv-loop μ-loop
 loop-again c =
-    let e = sym (c .before .before .before .before .before .before .piece-at .ensures) ∙ c .before .before .before .before .x .given .1 in
-    let w = told _ _ _ _ e in (
-      omega (arith, w .cut .within),
-      omega (arith, w .cut .least, one-here (c .before .before .before .before .before .before .before .before .loop .at) (c .before .before .before .before .x .given .0 .0), c .before .records-of .ensures),
-      count-next _ _ _ _ (c .before .before .before .before .before .before .before .before .loop .inv .2) (c .before .before .before .before .before .before .before .loop-test .taken) _ e _ (c .before .records-of .ensures) (c .if1 .left),
+    let l = c .before .before .before .before .loop in
+    let h = c .before .before .before .loop-test .taken in
+    let w = is-told _ _ _ (l .inv .2 .left) h in
+    let e = c .before .before .seen-at .ensures in
+    let m = ap (λ (y : Piece). y .len) e in (
+      omega (arith, w .cut .within, m),
+      omega (arith, w .cut .least, m, c .records-of .ensures, one-here (l .at) (c .before .before .seen-at .result)),
+      rw m (count-next _ (l .at) (l .n) (l .inv .2) h _ (rw e at (c .records-of .ensures))),
     )
 
-returns-3 : tie.Need-returns-3 Inv-loop μ-loop
-returns-3 c = count-out _ _ _ _ (c .before .loop .inv .2) (c .loop-test .left)
+returns : tie.Need-returns Inv-loop μ-loop
+returns c = count-out _ _ _ (c .before .loop .inv .2) (c .loop-test .left)
 
 pub count-spec : {M : Type 1} → statement M
 count-spec =
@@ -64,14 +59,10 @@ count-spec =
     Inv-loop
     μ-loop
     loop-holds
-    piece-at-requires
-    enum-told
-    returns
-    enum-known-x
+    seen-at-requires
     add-e
     records-of-requires
     add-n
-    returns-2
     loop-less
     loop-again
-    returns-3)
+    returns)

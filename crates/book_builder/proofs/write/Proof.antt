@@ -1,69 +1,59 @@
 use Rattle.book_builder.proofs.write.Statement.{statement}
 use Rattle.book_builder.proofs.write.Tie as tie
+use Rattle.book_builder.proofs.write.Reads as reads
+use Rattle.book_builder.proofs.write.Lts as lts
+use Rattle.book_builder.proofs.put_records.Reads as put-records-reads
+use Rattle.book_builder.proofs.seen_at.Reads as seen-at-reads
 use borrow.Author.Needs.{needs}
 use native.Mathlib.Omega.{arith}
+use native.Mathlib.Omega.{arith}
 use Prim.Native.Nat.{_≤_, _-_}
-use mathlib.Core.Path.{_≡_, sym, _∙_}
+use mathlib.Core.Path.{_≡_, _∙_, ap}
 use lib.ListN.{length}
-use Rattle.piece.proofs.Laws.{told}
-use Rattle.book_builder.proofs.Laws.{Writing, write-begin, write-out, write-refused, write-room, write-ended, write-next}
+use Rattle.piece.specs.declared.Piece.{Piece}
+use Rattle.book_builder.proofs.Laws.{Writing, write-begin, write-out, write-room, write-next, can-see, is-told}
 
 abbrev Inv-loop : tie.InvT-loop
-Inv-loop out₀ s at₀ to₀ first₀ out at to first = (at ≤ length s) × (length out ≡ length out₀) × Writing s at to first out₀ out
+Inv-loop out₀ s at₀ to₀ out at to = (at ≤ length s) × (length out ≡ length out₀) × Writing s at to out₀ out
 
 abbrev μ-loop : tie.MeasureT-loop
-μ-loop out₀ s at₀ to₀ first₀ out at to first = length s - at
+μ-loop out₀ s at₀ to₀ out at to = length s - at
 
 loop-holds : tie.Need-loop-holds Inv-loop μ-loop
-loop-holds c = (search needs, search needs, write-begin _ _)
+loop-holds c = (search needs, search needs, write-begin _ _ (c .before .before .pre .0))
 
-piece-at-requires : tie.Need-piece-at-requires Inv-loop μ-loop
-piece-at-requires c κs = search needs
-
-enum-told : tie.Need-enum-told Inv-loop μ-loop
-enum-told c = search needs
-
-same-length : tie.Need-same-length Inv-loop μ-loop
-same-length c = search needs
-
-returns : tie.Need-returns Inv-loop μ-loop
-returns c = write-refused _ _ _ _ _ _ (c .before .before .before .before .loop .inv .2) (c .before .before .before .loop-test .taken) _ (sym (c .before .before .piece-at .ensures) ∙ c .enum-told .given .1)
-
-enum-known-x : tie.Need-enum-known-x Inv-loop μ-loop
-enum-known-x c = search needs
+seen-at-requires : tie.Need-seen-at-requires Inv-loop μ-loop
+seen-at-requires c κs = can-see _ _ _ (c .before .loop .inv .2 .left) (c .loop-test .taken)
 
 add-e : tie.Need-add-e Inv-loop μ-loop
-add-e c = let w = told _ _ _ _ (sym (c .before .before .before .before .piece-at .ensures) ∙ c .before .before .x .given .1) in omega (arith, w .cut .within)
+add-e c = let l = c .before .before .before .loop in let w = is-told _ _ _ (l .inv .2 .left) (c .before .before .loop-test .taken) in omega (arith, w .cut .within, ap (λ (y : Piece). y .len) (c .before .seen-at .ensures))
 
 put-records-requires : tie.Need-put-records-requires Inv-loop μ-loop
 put-records-requires c κs =
-    let w = write-room _ _ _ _ _ _ (c .before .before .before .before .before .before .before .loop .inv .2) (c .before .before .before .before .before .before .loop-test .taken) _ (sym (c .before .before .before .before .before .piece-at .ensures) ∙ c .before .before .before .x .given .1) in
-    omega (arith, w, c .before .before .before .before .before .before .before .loop .inv .1, c .before .before .before .before .before .before .before .before .before .before .pre)
-
-same-length-2 : tie.Need-same-length-2 Inv-loop μ-loop
-same-length-2 c = c .before .before .before .put-records .kept .0 ∙ c .before .before .before .before .before .before .before .before .before .before .before .loop .inv .1
-
-returns-2 : tie.Need-returns-2 Inv-loop μ-loop
-returns-2 c =
-    write-ended _ _ _ _ _ _ (c .before .before .before .before .before .before .before .before .before .before .before .loop .inv .2) (c .before .before .before .before .before .before .before .before .before .before .loop-test .taken) _ (sym (c .before .before .before .before .before .before .before .before .before .piece-at .ensures) ∙ c .before .before .before .before .before .before .before .x .given .1) _ (c .before .before .before .put-records .ensures .1) (c .if1 .taken)
+    let l = c .before .before .before .before .loop in
+    let w = write-room _ _ _ _ _ (l .inv .2) (c .before .before .before .loop-test .taken) in
+    rw (c .before .before .seen-at .ensures) (omega (arith, w, l .inv .1, c .before .before .before .before .before .before .before .pre .1))
 
 loop-less : tie.Need-loop-less Inv-loop μ-loop
-loop-less c = let w = told _ _ _ _ (sym (c .before .before .before .before .before .before .before .before .before .piece-at .ensures) ∙ c .before .before .before .before .before .before .before .x .given .1) in omega (arith, w .cut .within, w .cut .least)
+loop-less c = let l = c .before .before .before .before .before .before .before .loop in let w = is-told _ _ _ (l .inv .2 .left) (c .before .before .before .before .before .before .loop-test .taken) in omega (arith, w .cut .within, w .cut .least, ap (λ (y : Piece). y .len) (c .before .before .before .before .before .seen-at .ensures))
 
 loop-again : tie.Need-loop-again Inv-loop μ-loop
 loop-again c =
-    let e = sym (c .before .before .before .before .before .before .before .before .before .piece-at .ensures) ∙ c .before .before .before .before .before .before .before .x .given .1 in
-    let w = told _ _ _ _ e in (
-      omega (arith, w .cut .within),
-      c .before .before .before .put-records .kept .0 ∙ c .before .before .before .before .before .before .before .before .before .before .before .loop .inv .1,
-      write-next _ _ _ _ _ _ (c .before .before .before .before .before .before .before .before .before .before .before .loop .inv .2) (c .before .before .before .before .before .before .before .before .before .before .loop-test .taken) _ e _ (c .before .before .before .put-records .ensures .1) _ (c .before .before .before .put-records .ensures .0) (c .if1 .left),
+    let l = c .before .before .before .before .before .before .before .loop in
+    let h = c .before .before .before .before .before .before .loop-test .taken in
+    let w = is-told _ _ _ (l .inv .2 .left) h in
+    let e = c .before .before .before .before .before .seen-at .ensures in
+    let m = ap (λ (y : Piece). y .len) e in (
+      omega (arith, w .cut .within, m),
+      c .before .before .put-records .kept .0 ∙ l .inv .1,
+      rw m (write-next _ (l .at) (l .to) _ _ (l .inv .2) h _ (rw e at (c .before .before .put-records .ensures .1)) _ (rw e at (c .before .before .put-records .ensures .0))),
     )
 
-same-length-3 : tie.Need-same-length-3 Inv-loop μ-loop
-same-length-3 c = search needs
+same-length : tie.Need-same-length Inv-loop μ-loop
+same-length c = c .before .loop .inv .1
 
-returns-3 : tie.Need-returns-3 Inv-loop μ-loop
-returns-3 c = write-out _ _ _ _ _ _ (c .before .loop .inv .2) (c .loop-test .left)
+returns : tie.Need-returns Inv-loop μ-loop
+returns c = write-out _ _ _ _ _ (c .before .loop .inv .2) (c .loop-test .left)
 
 pub write-spec : {M : Type 1} → statement M
 write-spec =
@@ -72,16 +62,10 @@ write-spec =
     Inv-loop
     μ-loop
     loop-holds
-    piece-at-requires
-    enum-told
-    same-length
-    returns
-    enum-known-x
+    seen-at-requires
     add-e
     put-records-requires
-    same-length-2
-    returns-2
     loop-less
     loop-again
-    same-length-3
-    returns-3)
+    same-length
+    returns)
