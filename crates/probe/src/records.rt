@@ -1,12 +1,13 @@
-// The map reader with n lent records.
+// The map reader with n lent records, and the records after it.
 use crate::line;
 use answer::Code;
 use answer::Material;
 use answer::Track;
 use answer::Value;
 use items::Part;
+use lent_records::After;
 use map::MapAnswer;
-use map::TrackAnswer;
+ghost use Prim.Native.Nat.{_≤_};
 
 fn value(out: &mut [u8], at: usize, v: Value) -> usize {
     match v {
@@ -74,57 +75,100 @@ fn record(out: &mut [u8], at: usize, t: Track) -> usize {
     part(out, k, p)
 }
 
-fn kth(out: &mut [u8], k: usize, s: &[u8], at: usize, i: usize) -> usize {
-    match map::track(s, at, i) {
-        TrackAnswer::Record(t) => record(out, k, t),
-        TrackAnswer::Refused(_) => line::say(out, k, b" lost"),
+// What each record holds before the call: no map gives it.
+fn start() -> Track {
+    Track {
+        id: 255,
+        kind: 255,
+        rate: Code::Is(255),
+        lines: Code::Is(255),
+        fields: Code::Is(255),
+        version: Value::Is(255),
+        name: Part::At(0, 0),
+        aux: Part::At(0, 0),
+        mpeg: Part::At(0, 0),
     }
 }
 
-// The records of so many listed tracks.
-fn records(out: &mut [u8], from: usize, s: &[u8], at: usize, n: usize) -> usize {
+fn same_code(c: Code) -> bool {
+    match c {
+        Code::Is(n) => n == 255,
+        _ => false,
+    }
+}
+
+fn same_value(v: Value) -> bool {
+    match v {
+        Value::Is(n) => n == 255,
+        Value::Absent => false,
+    }
+}
+
+fn same_part(p: Part) -> bool {
+    match p {
+        Part::At(q, n) => q == 0 && n == 0,
+        Part::Absent => false,
+    }
+}
+
+fn same_codes(t: Track) -> bool {
+    let a = t.rate;
+    let b = t.lines;
+    let c = t.fields;
+    same_code(a) && same_code(b) && same_code(c)
+}
+
+fn same_parts(t: Track) -> bool {
+    let a = t.name;
+    let b = t.aux;
+    let c = t.mpeg;
+    same_part(a) && same_part(b) && same_part(c)
+}
+
+// Whether a record is still what it was before the call, in all its parts.
+fn kept(t: Track) -> bool {
+    let v = t.version;
+    t.id == 255 && t.kind == 255 && same_codes(t) && same_value(v) && same_parts(t)
+}
+
+fn left(out: &mut [u8], at: usize, t: Track) -> usize {
+    if kept(t) {
+        return line::say(out, at, b" kept");
+    }
+    record(out, at, t)
+}
+
+// The first n records after the call.
+fn records(out: &mut [u8], from: usize, after: After, n: usize) -> usize
+    requires { ⌜ n ≤ 80 ⌝ }
+{
     let mut k = from;
     let mut i: usize = 0;
     while i < n {
-        k = kth(out, k, s, at, i);
+        let t = after.records[i];
+        k = left(out, k, t);
         i += 1;
     }
     k
 }
 
-fn keep(out: &mut [u8], at: usize) -> usize {
-    line::say(out, at, b" kept")
-}
-
-fn kept(out: &mut [u8], from: usize, n: usize) -> usize {
-    let mut k = from;
-    let mut i: usize = 0;
-    while i < n {
-        k = keep(out, k);
-        i += 1;
+fn words(out: &mut [u8], a: MapAnswer) -> usize {
+    match a {
+        MapAnswer::Refused(r) => line::refused(out, 0, r.number, r.place),
+        MapAnswer::Says(m) => {
+            let count = m.count;
+            let material = m.material;
+            says(out, count, material)
+        }
     }
-    k
 }
 
 pub fn map(out: &mut [u8], s: &[u8], at: usize, n: usize) -> usize {
     if 80 < n {
         return 0;
     }
-    match map::read(s, at) {
-        MapAnswer::Refused(r) => {
-            let k = line::refused(out, 0, r.number, r.place);
-            kept(out, k, n)
-        }
-        MapAnswer::Says(m) => {
-            let count = m.count;
-            if n < count {
-                let k = line::refused(out, 0, plate::ROOM, 0);
-                return kept(out, k, n);
-            }
-            let material = m.material;
-            let k = says(out, count, material);
-            let k = records(out, k, s, at, count);
-            kept(out, k, n - count)
-        }
-    }
+    let after = lent_records::fill(start(), n, s, at);
+    let a = after.answer;
+    let k = words(out, a);
+    records(out, k, after, n)
 }
