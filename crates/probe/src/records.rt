@@ -7,6 +7,7 @@ use answer::Value;
 use items::Part;
 use lent_records::After;
 use map::MapAnswer;
+use map::TrackAnswer;
 ghost use Prim.Native.Nat.{_≤_};
 
 fn value(out: &mut [u8], at: usize, v: Value) -> usize {
@@ -36,7 +37,7 @@ fn code(out: &mut [u8], at: usize, c: Code) -> usize {
 }
 
 fn says(out: &mut [u8], count: usize, m: Material) -> usize {
-    let k = line::one(out, b"map", count);
+    let k = line::one(out, 0, b"map", count);
     let p = m.name;
     let k = part(out, k, p);
     let v = m.first;
@@ -52,9 +53,7 @@ fn says(out: &mut [u8], count: usize, m: Material) -> usize {
 }
 
 fn codes(out: &mut [u8], at: usize, t: Track) -> usize {
-    let k = line::say(out, at, b" record");
-    let k = line::figure(out, k, t.id as u64);
-    let k = line::figure(out, k, t.kind as u64);
+    let k = line::two(out, at, b" record", t.id as usize, t.kind as usize);
     let c = t.rate;
     let k = code(out, k, c);
     let c = t.lines;
@@ -90,63 +89,98 @@ fn start() -> Track {
     }
 }
 
-fn same_code(c: Code) -> bool {
+fn code_number(c: Code) -> u64 {
     match c {
-        Code::Is(n) => n == 255,
-        _ => false,
+        Code::Is(n) => n as u64,
+        Code::NotApplicable => 256,
+        Code::NotAvailable => 257,
+        Code::Absent => 258,
     }
 }
 
-fn same_value(v: Value) -> bool {
+fn value_number(v: Value) -> u64 {
     match v {
-        Value::Is(n) => n == 255,
-        Value::Absent => false,
+        Value::Is(n) => n as u64,
+        Value::Absent => 0x1_0000_0000,
     }
 }
 
-fn same_part(p: Part) -> bool {
-    match p {
-        Part::At(q, n) => q == 0 && n == 0,
-        Part::Absent => false,
+fn same_part(a: Part, b: Part) -> bool {
+    match a {
+        Part::At(p, n) => match b {
+            Part::At(q, m) => p == q && n == m,
+            Part::Absent => false,
+        },
+        Part::Absent => match b {
+            Part::At(_, _) => false,
+            Part::Absent => true,
+        },
     }
 }
 
-fn same_codes(t: Track) -> bool {
-    let a = t.rate;
-    let b = t.lines;
-    let c = t.fields;
-    same_code(a) && same_code(b) && same_code(c)
+fn same_codes(a: Track, b: Track) -> bool {
+    let c = a.rate;
+    let d = b.rate;
+    let e = a.lines;
+    let f = b.lines;
+    let g = a.fields;
+    let h = b.fields;
+    code_number(c) == code_number(d)
+        && code_number(e) == code_number(f)
+        && code_number(g) == code_number(h)
 }
 
-fn same_parts(t: Track) -> bool {
-    let a = t.name;
-    let b = t.aux;
-    let c = t.mpeg;
-    same_part(a) && same_part(b) && same_part(c)
+fn same_parts(a: Track, b: Track) -> bool {
+    let c = a.name;
+    let d = b.name;
+    let e = a.aux;
+    let f = b.aux;
+    let g = a.mpeg;
+    let h = b.mpeg;
+    same_part(c, d) && same_part(e, f) && same_part(g, h)
 }
 
-// Whether a record is still what it was before the call, in all its parts.
-fn kept(t: Track) -> bool {
-    let v = t.version;
-    t.id == 255 && t.kind == 255 && same_codes(t) && same_value(v) && same_parts(t)
+fn same(a: Track, b: Track) -> bool {
+    let v = a.version;
+    let w = b.version;
+    a.id == b.id
+        && a.kind == b.kind
+        && value_number(v) == value_number(w)
+        && same_codes(a, b)
+        && same_parts(a, b)
 }
 
-fn left(out: &mut [u8], at: usize, t: Track) -> usize {
-    if kept(t) {
-        return line::say(out, at, b" kept");
+// The reader by value gives the same record.
+fn held(out: &mut [u8], k: usize, s: &[u8], at: usize, i: usize, t: Track) -> usize {
+    match map::track(s, at, i) {
+        TrackAnswer::Record(u) => {
+            if same(t, u) {
+                return k;
+            }
+            line::say(out, k, b" strayed")
+        }
+        TrackAnswer::Refused(_) => line::say(out, k, b" strayed"),
     }
-    record(out, at, t)
+}
+
+// Record i after the call: whether it still is what it was, or what it holds.
+fn left(out: &mut [u8], k: usize, s: &[u8], at: usize, i: usize, t: Track) -> usize {
+    if same(t, start()) {
+        return line::say(out, k, b" kept");
+    }
+    let k = record(out, k, t);
+    held(out, k, s, at, i, t)
 }
 
 // The first n records after the call.
-fn records(out: &mut [u8], from: usize, after: After, n: usize) -> usize
+fn records(out: &mut [u8], from: usize, s: &[u8], at: usize, after: After, n: usize) -> usize
     requires { ⌜ n ≤ 80 ⌝ }
 {
     let mut k = from;
     let mut i: usize = 0;
     while i < n {
         let t = after.records[i];
-        k = left(out, k, t);
+        k = left(out, k, s, at, i, t);
         i += 1;
     }
     k
@@ -154,7 +188,7 @@ fn records(out: &mut [u8], from: usize, after: After, n: usize) -> usize
 
 fn words(out: &mut [u8], a: MapAnswer) -> usize {
     match a {
-        MapAnswer::Refused(r) => line::refused(out, 0, r.number, r.place),
+        MapAnswer::Refused(r) => line::refused(out, 0, r),
         MapAnswer::Says(m) => {
             let count = m.count;
             let material = m.material;
@@ -170,5 +204,5 @@ pub fn map(out: &mut [u8], s: &[u8], at: usize, n: usize) -> usize {
     let after = lent_records::fill(start(), n, s, at);
     let a = after.answer;
     let k = words(out, a);
-    records(out, k, after, n)
+    records(out, k, s, at, after, n)
 }

@@ -6,10 +6,10 @@ use mathlib.Core.Path.{_≡_}
 use lib.ListN.{length}
 
 abbrev Inv-loop : tie.InvT-loop
-Inv-loop out₀ from n after k₀ i₀ out k i = (i ≤ n) × (n ≤ 80) × (length out ≡ length out₀)
+Inv-loop out₀ from s at n after k₀ i₀ out k i = (i ≤ n) × (n ≤ 80) × (length out ≡ length out₀)
 
 abbrev μ-loop : tie.MeasureT-loop
-μ-loop out₀ from n after k₀ i₀ out k i = n - i
+μ-loop out₀ from s at n after k₀ i₀ out k i = n - i
 
 loop-holds : tie.Need-loop-holds Inv-loop μ-loop
 loop-holds c = search needs

@@ -1,24 +1,24 @@
-use Rattle.probe.proofs.line.say.Statement.{statement}
-use Rattle.probe.proofs.line.say.Tie as tie
+use Rattle.probe.proofs.line.spell.Statement.{statement}
+use Rattle.probe.proofs.line.spell.Tie as tie
 use borrow.Author.Needs.{needs}
 use Prim.Native.Nat.{_≤_, _-_}
 use mathlib.Core.Path.{_≡_}
 use lib.ListN.{length}
 
 abbrev Inv-loop : tie.InvT-loop
-Inv-loop out₀ at text k₀ i₀ out k i = (i ≤ length text) × (length out ≡ length out₀)
+Inv-loop out₀ at bytes in-hex k₀ i₀ out k i = (i ≤ length bytes) × (length out ≡ length out₀)
 
 abbrev μ-loop : tie.MeasureT-loop
-μ-loop out₀ at text k₀ i₀ out k i = length text - i
+μ-loop out₀ at bytes in-hex k₀ i₀ out k i = length bytes - i
 
 loop-holds : tie.Need-loop-holds Inv-loop μ-loop
 loop-holds c = search needs
 
-shared-slice-read-put : tie.Need-shared-slice-read-put Inv-loop μ-loop
-shared-slice-read-put c = search needs
+shared-slice-read-byte : tie.Need-shared-slice-read-byte Inv-loop μ-loop
+shared-slice-read-byte c = search needs
 
-put-requires : tie.Need-put-requires Inv-loop μ-loop
-put-requires c κs = search needs
+byte-requires : tie.Need-byte-requires Inv-loop μ-loop
+byte-requires c κs = search needs
 
 add-i : tie.Need-add-i Inv-loop μ-loop
 add-i c = search needs
@@ -35,15 +35,15 @@ same-length c = search needs
 returns : tie.Need-returns Inv-loop μ-loop
 returns c = search needs
 
-pub say-spec : {M : Type 1} → statement M
-say-spec =
+pub spell-spec : {M : Type 1} → statement M
+spell-spec =
     tie.close
     (tie.spec
     Inv-loop
     μ-loop
     loop-holds
-    shared-slice-read-put
-    put-requires
+    shared-slice-read-byte
+    byte-requires
     add-i
     loop-less
     loop-again
