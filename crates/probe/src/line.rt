@@ -1,4 +1,6 @@
 // Tokens of a line, put into a lent buffer from a place on; each function gives the place behind what it put. What finds no room is left out.
+use plate::Refusal;
+
 fn put(out: &mut [u8], at: usize, b: u8) -> usize {
     if at < out.len() {
         out[at] = b;
@@ -7,14 +9,32 @@ fn put(out: &mut [u8], at: usize, b: u8) -> usize {
     at
 }
 
-pub fn say(out: &mut [u8], at: usize, text: &[u8]) -> usize {
+fn digit(x: u8) -> u8 {
+    let d = x % 16;
+    if d < 10 { 48 + d } else { 87 + d }
+}
+
+// A byte as it is, or in two digits.
+fn byte(out: &mut [u8], at: usize, b: u8, in_hex: bool) -> usize {
+    if in_hex {
+        let k = put(out, at, digit(b / 16));
+        return put(out, k, digit(b));
+    }
+    put(out, at, b)
+}
+
+fn spell(out: &mut [u8], at: usize, bytes: &[u8], in_hex: bool) -> usize {
     let mut k = at;
     let mut i: usize = 0;
-    while i < text.len() {
-        k = put(out, k, text[i]);
+    while i < bytes.len() {
+        k = byte(out, k, bytes[i], in_hex);
         i += 1;
     }
     k
+}
+
+pub fn say(out: &mut [u8], at: usize, text: &[u8]) -> usize {
+    spell(out, at, text, false)
 }
 
 // A space and a number.
@@ -25,27 +45,10 @@ pub fn figure(out: &mut [u8], at: usize, n: u64) -> usize {
     say(out, k, &digits[..m])
 }
 
-fn digit(x: u8) -> u8 {
-    let d = x % 16;
-    if d < 10 { 48 + d } else { 87 + d }
-}
-
-pub fn digits(out: &mut [u8], at: usize, bytes: &[u8]) -> usize {
-    let mut k = at;
-    let mut i: usize = 0;
-    while i < bytes.len() {
-        let b = bytes[i];
-        k = put(out, k, digit(b / 16));
-        k = put(out, k, digit(b));
-        i += 1;
-    }
-    k
-}
-
 // A space, `x` and two digits a byte.
 pub fn hex(out: &mut [u8], at: usize, bytes: &[u8]) -> usize {
     let k = say(out, at, b" x");
-    digits(out, k, bytes)
+    spell(out, k, bytes, true)
 }
 
 // A float's bits; of what is no number, which the library gives nowhere, 0.
@@ -65,20 +68,18 @@ pub fn bits(out: &mut [u8], at: usize, x: f64) -> usize {
     say(out, k, &text[..m])
 }
 
-pub fn refused(out: &mut [u8], at: usize, number: u8, place: usize) -> usize {
-    let k = say(out, at, b"refused");
-    let k = figure(out, k, number as u64);
-    figure(out, k, place as u64)
-}
-
 // A word and a number.
-pub fn one(out: &mut [u8], word: &[u8], n: usize) -> usize {
-    let k = say(out, 0, word);
+pub fn one(out: &mut [u8], at: usize, word: &[u8], n: usize) -> usize {
+    let k = say(out, at, word);
     figure(out, k, n as u64)
 }
 
 // A word and two numbers.
-pub fn two(out: &mut [u8], word: &[u8], n: usize, m: usize) -> usize {
-    let k = one(out, word, n);
+pub fn two(out: &mut [u8], at: usize, word: &[u8], n: usize, m: usize) -> usize {
+    let k = one(out, at, word, n);
     figure(out, k, m as u64)
+}
+
+pub fn refused(out: &mut [u8], at: usize, r: Refusal) -> usize {
+    two(out, at, b"refused", r.number as usize, r.place)
 }

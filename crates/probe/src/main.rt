@@ -1,7 +1,7 @@
 // Answers requests on standard input, a line each, until the input ends or a request is malformed: docs/PROBE.md.
 mod line;
 mod read;
-mod tracks;
+mod records;
 mod write;
 
 use libc::STDIN_FILENO;
@@ -90,7 +90,7 @@ fn maps<'a>(out: &mut [u8], function: u8, x: u64, y: u64, a: &'a [u8], b: &'a [u
     match function {
         1 => read::header(out, a, x as usize),
         2 => read::of_type(out, a, x as usize, y as usize),
-        3 => tracks::map(out, a, x as usize, y as usize),
+        3 => records::map(out, a, x as usize, y as usize),
         4 => read::name(out, a, x as usize, y as usize),
         5 => read::name_of_two(out, a, b, x as usize),
         _ => read::text(out, a),

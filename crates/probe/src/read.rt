@@ -1,6 +1,7 @@
 // The answers of what only reads.
 use crate::line;
 use book::LookupAnswer;
+use locator::LocatorAnswer;
 use locator::PositionAnswer;
 use media::Media;
 use media::MediaAnswer;
@@ -10,17 +11,14 @@ use name::TwoAnswer;
 use packet::PacketAnswer;
 use parameter::ParameterValue;
 use parameter::Parameters;
+use plate::Refusal;
 use stream::CheckAnswer;
 use stream::SeekAnswer;
 
 pub fn packet_words(out: &mut [u8], at: usize, a: PacketAnswer) -> usize {
     match a {
-        PacketAnswer::Whole(p) => {
-            let k = line::say(out, at, b"packet");
-            let k = line::figure(out, k, p.kind as u64);
-            line::figure(out, k, p.len as u64)
-        }
-        PacketAnswer::Refused(r) => line::refused(out, at, r.number, r.place),
+        PacketAnswer::Whole(p) => line::two(out, at, b"packet", p.kind as usize, p.len),
+        PacketAnswer::Refused(r) => line::refused(out, at, r),
     }
 }
 
@@ -38,18 +36,18 @@ pub fn of_type(out: &mut [u8], s: &[u8], at: usize, kind: usize) -> usize {
 }
 
 // Of 1 to 6 the place is the packet's first byte in the bytes that were sent, of others it counts from there.
-fn place_of(number: u8, place: usize, at: usize) -> usize {
-    if number < 7 {
-        return at;
+fn placed(r: Refusal, at: usize) -> Refusal {
+    if r.number < 7 {
+        return plate::refuse(r.number, at);
     }
-    place
+    r
 }
 
 // The library takes the map at the start of what it is lent: that is the bytes from the position on.
 fn name_words(out: &mut [u8], p: &[u8], id: usize, at: usize) -> usize {
     match name::name_place(p, id) {
-        NameAnswer::At(q, m) => line::two(out, b"name", q, m),
-        NameAnswer::Refused(r) => line::refused(out, 0, r.number, place_of(r.number, r.place, at)),
+        NameAnswer::At(q, m) => line::two(out, 0, b"name", q, m),
+        NameAnswer::Refused(r) => line::refused(out, 0, placed(r, at)),
     }
 }
 
@@ -67,9 +65,9 @@ pub fn name(out: &mut [u8], s: &[u8], at: usize, id: usize) -> usize {
 
 fn two_words(out: &mut [u8], opening: &[u8], closing: &[u8], id: usize) -> usize {
     match name::name_place_of_two(opening, closing, id) {
-        TwoAnswer::Opening(q, m) => line::two(out, b"opening", q, m),
-        TwoAnswer::Closing(q, m) => line::two(out, b"closing", q, m),
-        TwoAnswer::Refused(r) => line::refused(out, 0, r.number, r.place),
+        TwoAnswer::Opening(q, m) => line::two(out, 0, b"opening", q, m),
+        TwoAnswer::Closing(q, m) => line::two(out, 0, b"closing", q, m),
+        TwoAnswer::Refused(r) => line::refused(out, 0, r),
     }
 }
 
@@ -130,24 +128,27 @@ pub fn text(out: &mut [u8], s: &[u8]) -> usize {
             let k = back(out, k, p);
             last(out, k, p)
         }
-        MpegAnswer::Refused(r) => line::refused(out, 0, r.number, r.place),
+        MpegAnswer::Refused(r) => line::refused(out, 0, r),
     }
 }
 
-pub fn position(out: &mut [u8], s: &[u8], at: usize, distance: u64) -> usize {
+fn position_words(out: &mut [u8], s: &[u8], at: usize, distance: u64) -> usize {
     match locator::position(s, at, distance) {
-        PositionAnswer::At(p) => {
-            let k = line::say(out, 0, b"position");
-            line::figure(out, k, p)
-        }
-        PositionAnswer::Refused(r) => line::refused(out, 0, r.number, r.place),
+        PositionAnswer::At(p) => line::one(out, 0, b"position", p as usize),
+        PositionAnswer::Refused(r) => line::refused(out, 0, r),
+    }
+}
+
+// The table's own refusal is asked of the reader of the table.
+pub fn position(out: &mut [u8], s: &[u8], at: usize, distance: u64) -> usize {
+    match locator::read(s, at) {
+        LocatorAnswer::Table(_) => position_words(out, s, at, distance),
+        LocatorAnswer::Refused(r) => line::refused(out, 0, r),
     }
 }
 
 fn media_front(out: &mut [u8], m: Media) -> usize {
-    let k = line::say(out, 0, b"media");
-    let k = line::figure(out, k, m.kind as u64);
-    let k = line::figure(out, k, m.track as u64);
+    let k = line::two(out, 0, b"media", m.kind as usize, m.track as usize);
     line::figure(out, k, m.field as u64)
 }
 
@@ -163,28 +164,28 @@ pub fn media(out: &mut [u8], s: &[u8], at: usize) -> usize {
             let k = media_front(out, m);
             media_back(out, k, m)
         }
-        MediaAnswer::Refused(r) => line::refused(out, 0, r.number, r.place),
+        MediaAnswer::Refused(r) => line::refused(out, 0, r),
     }
 }
 
 pub fn check(out: &mut [u8], s: &[u8]) -> usize {
     match stream::check(s) {
-        CheckAnswer::Packets(n) => line::one(out, b"ok", n),
-        CheckAnswer::Refused(r) => line::refused(out, 0, r.number, r.place),
+        CheckAnswer::Packets(n) => line::one(out, 0, b"ok", n),
+        CheckAnswer::Refused(r) => line::refused(out, 0, r),
     }
 }
 
 pub fn seek(out: &mut [u8], s: &[u8], track: u64, field: u64) -> usize {
     match stream::seek(s, track, field) {
-        SeekAnswer::At(o) => line::one(out, b"at", o),
-        SeekAnswer::Refused(r) => line::refused(out, 0, r.number, r.place),
+        SeekAnswer::At(o) => line::one(out, 0, b"at", o),
+        SeekAnswer::Refused(r) => line::refused(out, 0, r),
     }
 }
 
 pub fn lookup(out: &mut [u8], s: &[u8], track: u64, field: u64) -> usize {
     match book::lookup(s, track, field) {
-        LookupAnswer::At(o) => line::one(out, b"at", o),
-        LookupAnswer::Refused(r) => line::refused(out, 0, r.number, r.place),
+        LookupAnswer::At(o) => line::one(out, 0, b"at", o),
+        LookupAnswer::Refused(r) => line::refused(out, 0, r),
     }
 }
 

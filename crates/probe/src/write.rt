@@ -35,15 +35,15 @@ fn words(list: &mut [u64], s: &[u8]) -> usize
 
 fn write_words(out: &mut [u8], a: WriteAnswer) -> usize {
     match a {
-        WriteAnswer::Length(n) => line::one(out, b"length", n),
-        WriteAnswer::Refused(r) => line::refused(out, 0, r.number, r.place),
+        WriteAnswer::Length(n) => line::one(out, 0, b"length", n),
+        WriteAnswer::Refused(r) => line::refused(out, 0, r),
     }
 }
 
 fn build_words(out: &mut [u8], a: BuildAnswer) -> usize {
     match a {
-        BuildAnswer::Records(n) => line::one(out, b"records", n),
-        BuildAnswer::Refused(r) => line::refused(out, 0, r.number, r.place),
+        BuildAnswer::Records(n) => line::one(out, 0, b"records", n),
+        BuildAnswer::Refused(r) => line::refused(out, 0, r),
     }
 }
 

@@ -1,24 +1,27 @@
-use Rattle.probe.proofs.line.say.Statement.{statement}
-use Rattle.probe.proofs.line.say.Tie as tie
+use Rattle.probe.proofs.records.records.Statement.{statement}
+use Rattle.probe.proofs.records.records.Tie as tie
 use borrow.Author.Needs.{needs}
 use Prim.Native.Nat.{_≤_, _-_}
 use mathlib.Core.Path.{_≡_}
 use lib.ListN.{length}
 
 abbrev Inv-loop : tie.InvT-loop
-Inv-loop out₀ at text k₀ i₀ out k i = (i ≤ length text) × (length out ≡ length out₀)
+Inv-loop out₀ from s at n after k₀ i₀ out k i = (i ≤ n) × (n ≤ 80) × (length out ≡ length out₀)
 
 abbrev μ-loop : tie.MeasureT-loop
-μ-loop out₀ at text k₀ i₀ out k i = length text - i
+μ-loop out₀ from s at n after k₀ i₀ out k i = n - i
 
 loop-holds : tie.Need-loop-holds Inv-loop μ-loop
 loop-holds c = search needs
 
-shared-slice-read-put : tie.Need-shared-slice-read-put Inv-loop μ-loop
-shared-slice-read-put c = search needs
+mul-t : tie.Need-mul-t Inv-loop μ-loop
+mul-t c = search needs
 
-put-requires : tie.Need-put-requires Inv-loop μ-loop
-put-requires c κs = search needs
+element-copy-out-t : tie.Need-element-copy-out-t Inv-loop μ-loop
+element-copy-out-t c = search needs
+
+left-requires : tie.Need-left-requires Inv-loop μ-loop
+left-requires c κs = search needs
 
 add-i : tie.Need-add-i Inv-loop μ-loop
 add-i c = search needs
@@ -35,15 +38,16 @@ same-length c = search needs
 returns : tie.Need-returns Inv-loop μ-loop
 returns c = search needs
 
-pub say-spec : {M : Type 1} → statement M
-say-spec =
+pub records-spec : {M : Type 1} → statement M
+records-spec =
     tie.close
     (tie.spec
     Inv-loop
     μ-loop
     loop-holds
-    shared-slice-read-put
-    put-requires
+    mul-t
+    element-copy-out-t
+    left-requires
     add-i
     loop-less
     loop-again

@@ -1,21 +1,24 @@
-use Rattle.probe.proofs.tracks.kept.Statement.{statement}
-use Rattle.probe.proofs.tracks.kept.Tie as tie
+use Rattle.probe.proofs.line.spell.Statement.{statement}
+use Rattle.probe.proofs.line.spell.Tie as tie
 use borrow.Author.Needs.{needs}
 use Prim.Native.Nat.{_≤_, _-_}
 use mathlib.Core.Path.{_≡_}
 use lib.ListN.{length}
 
 abbrev Inv-loop : tie.InvT-loop
-Inv-loop out₀ from n k₀ i₀ out k i = (i ≤ n) × (length out ≡ length out₀)
+Inv-loop out₀ at bytes in-hex k₀ i₀ out k i = (i ≤ length bytes) × (length out ≡ length out₀)
 
 abbrev μ-loop : tie.MeasureT-loop
-μ-loop out₀ from n k₀ i₀ out k i = n - i
+μ-loop out₀ at bytes in-hex k₀ i₀ out k i = length bytes - i
 
 loop-holds : tie.Need-loop-holds Inv-loop μ-loop
 loop-holds c = search needs
 
-keep-requires : tie.Need-keep-requires Inv-loop μ-loop
-keep-requires c κs = search needs
+shared-slice-read-byte : tie.Need-shared-slice-read-byte Inv-loop μ-loop
+shared-slice-read-byte c = search needs
+
+byte-requires : tie.Need-byte-requires Inv-loop μ-loop
+byte-requires c κs = search needs
 
 add-i : tie.Need-add-i Inv-loop μ-loop
 add-i c = search needs
@@ -32,14 +35,15 @@ same-length c = search needs
 returns : tie.Need-returns Inv-loop μ-loop
 returns c = search needs
 
-pub kept-spec : {M : Type 1} → statement M
-kept-spec =
+pub spell-spec : {M : Type 1} → statement M
+spell-spec =
     tie.close
     (tie.spec
     Inv-loop
     μ-loop
     loop-holds
-    keep-requires
+    shared-slice-read-byte
+    byte-requires
     add-i
     loop-less
     loop-again

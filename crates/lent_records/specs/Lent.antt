@@ -1,0 +1,21 @@
+-- A call of `tracks::fill` on the first n of some records (01, Map, "Reading fills lent track records").
+use Prim.Native.Nat.{ℕ}
+use mathlib.Core.List.{List, _++_}
+use lib.ListN.{take, drop}
+use lib.Dec.{ltb}
+use Rattle.plate.specs.Choice.{pick}
+use Rattle.answer.specs.declared.Track.{Track}
+use Rattle.map.specs.declared.MapAnswer.{MapAnswer}
+use Rattle.tracks.specs.Fill.{recordsAt, answerFor, lentAfter}
+use Rattle.lent_records.specs.declared.After.{After}
+
+abbrev pub after : MapAnswer → List Track → After
+after a zs = record { answer = a; records = zs }
+
+-- the answer for n records, and all records: those that were lent as the call leaves them, then the others as they were
+unfoldable pub afterFill : List Track → ℕ → List ℕ → ℕ → After
+afterFill xs n s at = after (answerFor s at n) (lentAfter (recordsAt s at) (take n xs) (answerFor s at n) ++ drop n xs)
+
+-- of 80 records, how many are lent where n are asked for
+unfoldable pub lentOf : ℕ → ℕ
+lentOf n = pick (ltb n 80) n 80
