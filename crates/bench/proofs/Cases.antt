@@ -10,14 +10,13 @@ use Rattle.plate.specs.Plate.{refusal}
 use Rattle.items.specs.Items as items
 use Rattle.items.specs.Judge as judge
 use Rattle.items.specs.Find as find
-use Rattle.items.specs.declared.Part.the-variants as part
 use Rattle.answer.specs.Answer as answer
 use Rattle.answer.specs.declared.Value.the-variants as value
 use Rattle.track_section.specs.Tracks as tracks
 use Rattle.map.specs.Map as map
 use Rattle.map.specs.declared.MapAnswer.{MapAnswer}
 use Rattle.map.specs.declared.MapAnswer.the-variants as map-answer
-use Rattle.bench.proofs.Table.{Reading, Agree}
+use Rattle.bench.proofs.Table.{Reading, Agree, saying}
 
 -- a map packet of a length and a payload
 abbrev framed : ℕ → ℕ → List ℕ → List ℕ
@@ -36,20 +35,7 @@ idTracks zero id = []
 idTracks (suc n) id = 0x8A ∷ id ∷ 0 ∷ 0 ∷ idTracks n (suc id)
 
 abbrev empty : ℕ → MapAnswer
-empty n =
-    map-answer.Says
-    (record {
-      count = n;
-      material =
-          record {
-            name = part.Absent;
-            first = value.Absent;
-            last = value.Absent;
-            «mark_in» = value.Absent;
-            «mark_out» = value.Absent;
-            size = value.Absent;
-          };
-    })
+empty n = map-answer.Says (saying n value.Absent)
 
 pub cases : List Reading
 cases =

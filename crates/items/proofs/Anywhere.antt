@@ -8,7 +8,7 @@ use lib.ListN.{length}
 use lib.Dec.{eqb}
 use Rattle.plate.specs.Choice.{pick}
 use Rattle.items.specs.Items.{Item, sectionOf, sizeOf, bytesOf}
-use Rattle.items.specs.Judge.{bad, andThen, formOf, isKnown, faultOf, countsAs, has, judgeItems, ending, verdictOf}
+use Rattle.items.specs.Judge.{bad, andThen, formOf, isKnown, faultOf, countsAs, has, onItem, judgeItems, ending, verdictOf}
 use Rattle.items.specs.declared.Section.{Section}
 use Rattle.items.specs.declared.Verdict.{Verdict}
 use Rattle.items.specs.declared.Verdict.the-variants.{Accepted, Refused}
@@ -23,28 +23,28 @@ pub both-accepted : (v w : Verdict) → andThen v w ≡ Accepted → (v ≡ Acce
 both-accepted Accepted w e = (refl, e)
 both-accepted (Refused r) w e = absurd (let z : _≡_ {A = ℕ} 0 1 = cc in omega arith)
 
+-- an accepted item is accepted at any other place, and before anything that is accepted where what follows it was
+pub item-anywhere : (section : Section) (seen : List ℕ) (p q : ℕ) (i : Item) (next other : List ℕ → Verdict) → ((z : List ℕ) → next z ≡ Accepted → other z ≡ Accepted)
+    → onItem section seen p i next ≡ Accepted → onItem section seen q i other ≡ Accepted
+item-anywhere section seen p q i next other h = go (eqb f 0) (isKnown (formOf section (i .tag))) (has c seen)
+  where
+    c : ℕ
+    c = countsAs (i .tag)
+
+    f : ℕ
+    f = faultOf (formOf section (i .tag)) (i .value)
+
+    go : (a b d : Bool) → pick a (pick b (pick d (bad 10 p) (next (c ∷ seen))) (next seen)) (bad f p) ≡ Accepted
+        → pick a (pick b (pick d (bad 10 q) (other (c ∷ seen))) (other seen)) (bad f q) ≡ Accepted
+    go true true true e = not-accepted 10 p e
+    go true true false e = h (c ∷ seen) e
+    go true false d e = h seen e
+    go false b d e = not-accepted f p e
+
 pub judge-anywhere : (section : Section) (seen : List ℕ) (p q : ℕ) (is : List Item) → judgeItems section seen p is ≡ Accepted → judgeItems section seen q is ≡ Accepted
 unfolding judgeItems
 judge-anywhere section seen p q [] e = refl
-judge-anywhere section seen p q (i ∷ is) e =
-    go (eqb (faultOf (formOf section (i .tag)) (i .value)) 0) (isKnown (formOf section (i .tag))) (has (countsAs (i .tag)) seen)
-    (λ z. judge-anywhere section z (p + 2 + length (i .value)) (q + 2 + length (i .value)) is) e
-  where
-    go : (a b d : Bool) → ((z : List ℕ) → judgeItems section z (p + 2 + length (i .value)) is ≡ Accepted → judgeItems section z (q + 2 + length (i .value)) is ≡ Accepted)
-        → pick a
-        (pick b
-        (pick d (bad 10 p) (judgeItems section (countsAs (i .tag) ∷ seen) (p + 2 + length (i .value)) is))
-        (judgeItems section seen (p + 2 + length (i .value)) is))
-        (bad (faultOf (formOf section (i .tag)) (i .value)) p) ≡ Accepted
-        → pick a
-        (pick b
-        (pick d (bad 10 q) (judgeItems section (countsAs (i .tag) ∷ seen) (q + 2 + length (i .value)) is))
-        (judgeItems section seen (q + 2 + length (i .value)) is))
-        (bad (faultOf (formOf section (i .tag)) (i .value)) q) ≡ Accepted
-    go true true true h e = not-accepted 10 p e
-    go true true false h e = h (countsAs (i .tag) ∷ seen) e
-    go true false d h e = h seen e
-    go false b d h e = not-accepted (faultOf (formOf section (i .tag)) (i .value)) p e
+judge-anywhere section seen p q (i ∷ is) e = item-anywhere section seen p q i _ _ (λ z. judge-anywhere section z (p + 2 + length (i .value)) (q + 2 + length (i .value)) is) e
 
 -- an accepted section is whole, and its items are accepted
 pub verdict-accepted : (section : Section) (s : List ℕ) (p : ℕ) → verdictOf section s p ≡ Accepted → (judgeItems section [] p (sectionOf s .items) ≡ Accepted) × (sectionOf s .whole ≡ true)

@@ -1,6 +1,6 @@
 -- A section's split at a place, and the split of what was put together.
 use Prim.Native.Nat.{ℕ, zero, suc, _+_, _-_, _<_, _≤_}
-use mathlib.Core.Path.{_≡_, refl, sym, _∙_, ap}
+use mathlib.Core.Path.{_≡_, refl, _∙_}
 use mathlib.Core.List.{List, [], _∷_, _++_, append-assoc}
 use mathlib.Core.Bool.{Bool, true, false}
 use native.Mathlib.Omega.{arith}
@@ -107,9 +107,6 @@ bytes-split (suc f) (t ∷ n ∷ s) h w = go (leb n (length s)) refl (λ v. byte
 pub section-whole : (s : List ℕ) → sectionOf s .whole ≡ true → bytesOf (sectionOf s .items) ≡ s
 unfolding sectionOf
 section-whole s w = bytes-split (suc (length s)) s (omega arith) w
-
-pub section-size : (s : List ℕ) → sectionOf s .whole ≡ true → sizeOf (sectionOf s .items) ≡ length s
-section-size s w = sym (length-bytes (sectionOf s .items)) ∙ ap length (section-whole s w)
 
 -- the items of a section, whole or not, are the bytes at its front
 split-front : (f : ℕ) (s : List ℕ) → bytesOf (split f s .items) ++ drop (sizeOf (split f s .items)) s ≡ s

@@ -9,15 +9,11 @@ use lib.ListN.{length}
 use lib.Dec.{ltb, eqb}
 use Rattle.plate.specs.Choice.{pick}
 use Rattle.number.specs.Number.{le}
-use Rattle.plate.specs.declared.Refusal.{Refusal}
-use Rattle.packet.specs.Packet.{packetAt}
-use Rattle.packet.specs.declared.PacketAnswer.{PacketAnswer}
-use Rattle.packet.specs.declared.PacketAnswer.the-variants.{Whole, Refused as NoPacket}
-use Rattle.locator.specs.Locator.{tableOf, noTable, tableAt, tableIn, positionOf, positionAt, positionIn}
+use Rattle.packet.specs.declared.PacketAnswer.the-variants.{Refused as NoPacket}
+use Rattle.locator.specs.Locator.{tableOf, noTable}
 use Rattle.locator.specs.declared.Locator.{Locator}
 use Rattle.locator.specs.declared.LocatorAnswer.{LocatorAnswer}
 use Rattle.locator.specs.declared.LocatorAnswer.the-variants.{Table, Refused as NoTable}
-use Rattle.locator.specs.declared.PositionAnswer.the-variants.{Refused}
 
 pub record Good (p : List ℕ) (t : Locator) : Type 0 where
   pub steps : 0 < t .step
@@ -39,12 +35,3 @@ taken p t e =
     let u : t .step ≡ le p 16 4 = cc in
     let v : t .count ≡ le p 20 4 = cc in
     record { steps = omega (arith, eqb-false); few = omega (arith, ltb-false); within = omega (arith, ltb-false) }
-
--- what refuses the table refuses the position too, whatever the distance
-pub as-read : (s : List ℕ) (at d : ℕ) (r : Refusal) → tableAt s at ≡ NoTable r → positionAt s at d ≡ Refused r
-unfolding tableAt positionAt positionOf
-as-read s at d r = go (packetAt s at 0xFC)
-  where
-    go : (a : PacketAnswer) → tableIn s at a ≡ NoTable r → positionIn s at d a ≡ Refused r
-    go (NoPacket q) e = let z : q ≡ r = cc in cc
-    go (Whole p) e = simp e

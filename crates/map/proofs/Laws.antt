@@ -9,7 +9,7 @@ use lib.Dec.{ltb}
 use borrow.Author.Tests.{ltb-false}
 use Rattle.plate.specs.Choice.{pick}
 use Rattle.number.specs.Number.{be}
-use Rattle.map.specs.Map.{part, afterMaterial, layoutOf, materialIn, tracksIn, tracksAt, listedIn}
+use Rattle.map.specs.Map.{part, afterMaterial, layoutOf, tracksIn, tracksAt, listedIn}
 use Rattle.map.specs.declared.Layout.{Layout}
 use Rattle.map.specs.declared.Layout.the-variants.{Both, One, Neither}
 use Rattle.items.specs.declared.Part.the-variants.{At}
@@ -52,14 +52,6 @@ one-within p a q = rw q at (layout-within p)
 -- places in the sections are places in the packet
 pub part-length : (from to : ℕ) (p : List ℕ) → length (part from to p) ≤ to - from
 part-length from to p = simp length-take (omega arith)
-
-pub material-fits : (p : List ℕ) (n : ℕ) → 20 ≤ n → length p ≤ n → 20 + length (materialIn p (layoutOf p)) ≤ n
-material-fits p n h k = go (layoutOf p) (layout-within p)
-  where
-    go : (l : Layout) → Within (length p) l → 20 + length (materialIn p l) ≤ n
-    go (Both a e) w = omega (arith, part-length 20 a p, w .0, w .1, w .2)
-    go (One a) w = omega (arith, part-length 20 a p, w .0, w .1)
-    go Neither w = omega arith
 
 pub tracks-fit : (p : List ℕ) → tracksAt (layoutOf p) + length (tracksIn p (layoutOf p)) ≤ length p
 tracks-fit p = go (layoutOf p) (layout-within p)

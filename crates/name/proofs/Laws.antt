@@ -1,6 +1,6 @@
 -- A name that is found lies within the lent map.
 use Prim.Native.Nat.{ℕ, _+_, _-_, _≤_}
-use mathlib.Core.Path.{_≡_, refl}
+use mathlib.Core.Path.{_≡_, refl, subst}
 use mathlib.Core.List.{List}
 use native.Mathlib.Omega.{arith}
 use lib.ListN.{length, take, length-take}
@@ -21,6 +21,7 @@ use Rattle.name.specs.Name.{ifAccepted, ifWhole, openedOf, unended, name
 use Rattle.name.specs.declared.Opened.{Opened}
 use Rattle.name.specs.declared.Opened.the-variants as opened
 use Rattle.name.specs.declared.NameAnswer.the-variants as name
+use Rattle.name.specs.declared.TwoAnswer.{TwoAnswer}
 use Rattle.name.specs.declared.TwoAnswer.the-variants as two
 
 -- a packet of the asked type at the start of bytes is no longer than they
@@ -70,32 +71,29 @@ place-within s id q m = go (openedOf s)
         by part.Absent f e = absurd (let z : _≡_ {A = ℕ} 0 1 = cc in omega arith)
         by (part.At a b) f e = let g : a ≡ q = cc in let h : b ≡ m = cc in omega (arith, in-front s n id a b f)
 
--- of two
-module _ (a b : List ℕ) (id q m : ℕ) where
-  pub closing-within : nameOfTwoAt a b id ≡ two.Closing q m → q + m ≤ length b
-  unfolding nameOfTwoAt
-  closing-within = go (openedOf a) (openedOf b)
-    where
-      go : (o p : Opened) → inTwo a b id o p ≡ two.Closing q m → q + m ≤ length b
-      go (opened.Refused r) p e = absurd (let z : _≡_ {A = ℕ} 0 1 = cc in omega arith)
-      go (opened.Bytes k) (opened.Refused r) e = absurd (let z : _≡_ {A = ℕ} 0 1 = cc in omega arith)
-      go (opened.Bytes k) (opened.Bytes n) e = by (nameIn (take n b) id) (nameIn (take k a) id) refl e
-        where
-          by : (x y : Part) → nameIn (take n b) id ≡ x → orElse x y ≡ two.Closing q m → q + m ≤ length b
-          by (part.At c d) y f e = let g : c ≡ q = cc in let h : d ≡ m = cc in omega (arith, in-front b n id c d f)
-          by part.Absent (part.At c d) f e = absurd (let z : _≡_ {A = ℕ} 0 1 = cc in omega arith)
-          by part.Absent part.Absent f e = absurd (let z : _≡_ {A = ℕ} 0 1 = cc in omega arith)
+-- of two: where a name is said to stand, it does
+abbrev Inside : ℕ → ℕ → TwoAnswer → Type 0
+Inside la lb (two.Opening q m) = q + m ≤ la
+Inside la lb (two.Closing q m) = q + m ≤ lb
+Inside la lb (two.Refused r) = Unit
 
-  pub opening-within : nameOfTwoAt a b id ≡ two.Opening q m → q + m ≤ length a
+module _ (a b : List ℕ) (id : ℕ) where
+  inside : Inside (length a) (length b) (nameOfTwoAt a b id)
   unfolding nameOfTwoAt
-  opening-within = go (openedOf a) (openedOf b)
+  inside = go (openedOf a) (openedOf b)
     where
-      go : (o p : Opened) → inTwo a b id o p ≡ two.Opening q m → q + m ≤ length a
-      go (opened.Refused r) p e = absurd (let z : _≡_ {A = ℕ} 0 1 = cc in omega arith)
-      go (opened.Bytes k) (opened.Refused r) e = absurd (let z : _≡_ {A = ℕ} 0 1 = cc in omega arith)
-      go (opened.Bytes k) (opened.Bytes n) e = by (nameIn (take n b) id) (nameIn (take k a) id) refl e
+      go : (o p : Opened) → Inside (length a) (length b) (inTwo a b id o p)
+      go (opened.Refused r) p = tt
+      go (opened.Bytes k) (opened.Refused r) = tt
+      go (opened.Bytes k) (opened.Bytes n) = by (nameIn (take n b) id) (nameIn (take k a) id) refl refl
         where
-          by : (x y : Part) → nameIn (take k a) id ≡ y → orElse x y ≡ two.Opening q m → q + m ≤ length a
-          by (part.At c d) y f e = absurd (let z : _≡_ {A = ℕ} 0 1 = cc in omega arith)
-          by part.Absent (part.At c d) f e = let g : c ≡ q = cc in let h : d ≡ m = cc in omega (arith, in-front a k id c d f)
-          by part.Absent part.Absent f e = absurd (let z : _≡_ {A = ℕ} 0 1 = cc in omega arith)
+          by : (x y : Part) → nameIn (take n b) id ≡ x → nameIn (take k a) id ≡ y → Inside (length a) (length b) (orElse x y)
+          by (part.At q m) y f g = in-front b n id q m f
+          by part.Absent (part.At q m) f g = in-front a k id q m g
+          by part.Absent part.Absent f g = tt
+
+  pub closing-within : (q m : ℕ) → nameOfTwoAt a b id ≡ two.Closing q m → q + m ≤ length b
+  closing-within q m e = subst (Inside (length a) (length b)) e inside
+
+  pub opening-within : (q m : ℕ) → nameOfTwoAt a b id ≡ two.Opening q m → q + m ≤ length a
+  opening-within q m e = subst (Inside (length a) (length b)) e inside

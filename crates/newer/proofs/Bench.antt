@@ -2,7 +2,8 @@
 use Prim.Native.Nat.{ℕ, _<_}
 use mathlib.Core.Path.{_≡_, refl, sym, _∙_, ap}
 use mathlib.Core.Bool.{Bool, true, false}
-use mathlib.Core.List.{List, [], _∷_}
+use mathlib.Core.List.{List, [], _∷_, _++_}
+use lib.ListN.{length}
 use native.Mathlib.Omega.{arith}
 use lib.Dec.{ltb}
 use borrow.Author.Tests.{ltb-true}
@@ -16,7 +17,6 @@ use Rattle.items.specs.Items as items
 use Rattle.items.specs.Items.{Item}
 use Rattle.items.specs.Judge as judge
 use Rattle.items.specs.Find as find
-use Rattle.items.specs.declared.Part.the-variants as part
 use Rattle.answer.specs.Answer as answer
 use Rattle.answer.specs.declared.Value.the-variants as value
 use Rattle.answer.specs.declared.Code.{Code}
@@ -28,6 +28,8 @@ use Rattle.map.specs.Shown as shown
 use Rattle.map.specs.Shown.{nothing, bytes, Shown, shownIn}
 use Rattle.map.specs.Said as said
 use Rattle.map.specs.declared.MapSays.{MapSays}
+use Rattle.map.specs.Map.{mapAt}
+use Rattle.bench.proofs.Table.{headed, upToRate, M, newer, reserved, saying}
 use Rattle.newer.specs.Strike as strike
 use Rattle.newer.specs.Strike.{inTrack, setIn}
 use Rattle.newer.specs.Demand.{Accepted, Alike, There, Unknown, Room}
@@ -41,33 +43,9 @@ use Rattle.newer.specs.Functions.{ReadGives, TrackGives, MapSeen, says, 
 use Rattle.newer.proofs.Demand.{demand}
 use Rattle.newer.proofs.Functions.{answers}
 
--- header, payload's front, first field 0; the track section, track 1 of type 10 with the name A1 and the rate not available; a pad byte
-abbrev pub M : List ℕ
-M =
-    0x00 ∷ 0x00 ∷ 0x00 ∷ 0x00 ∷ 0x01 ∷ 0xBC ∷ 0x00 ∷ 0x00 ∷ 0x00 ∷ 0x2C ∷ 0x00 ∷ 0x00 ∷ 0x00 ∷ 0x00 ∷ 0xE1 ∷ 0xE2
-    ∷ 0xE0 ∷ 0xFF ∷ 0x00 ∷ 0x06 ∷ 0x41 ∷ 0x04 ∷ 0x00 ∷ 0x00 ∷ 0x00 ∷ 0x00
-    ∷ 0x00 ∷ 0x0F ∷ 0x8A ∷ 0xC1 ∷ 0x00 ∷ 0x0B ∷ 0x4C ∷ 0x03 ∷ 0x41 ∷ 0x31 ∷ 0x00 ∷ 0x50 ∷ 0x04 ∷ 0xFF ∷ 0xFF ∷ 0xFF ∷ 0xFE ∷ 0x00 ∷ []
-
--- M with `7E 01 55` after the rate: length 30, section 12, track 0E, two pad bytes
-abbrev pub newer : List ℕ
-newer =
-    0x00 ∷ 0x00 ∷ 0x00 ∷ 0x00 ∷ 0x01 ∷ 0xBC ∷ 0x00 ∷ 0x00 ∷ 0x00 ∷ 0x30 ∷ 0x00 ∷ 0x00 ∷ 0x00 ∷ 0x00 ∷ 0xE1 ∷ 0xE2
-    ∷ 0xE0 ∷ 0xFF ∷ 0x00 ∷ 0x06 ∷ 0x41 ∷ 0x04 ∷ 0x00 ∷ 0x00 ∷ 0x00 ∷ 0x00
-    ∷ 0x00 ∷ 0x12 ∷ 0x8A ∷ 0xC1 ∷ 0x00 ∷ 0x0E ∷ 0x4C ∷ 0x03 ∷ 0x41 ∷ 0x31 ∷ 0x00 ∷ 0x50 ∷ 0x04 ∷ 0xFF ∷ 0xFF ∷ 0xFF ∷ 0xFE ∷ 0x7E ∷ 0x01 ∷ 0x55 ∷ 0x00 ∷ 0x00 ∷ []
-
--- M with rate 9
-abbrev pub reserved : List ℕ
-reserved =
-    0x00 ∷ 0x00 ∷ 0x00 ∷ 0x00 ∷ 0x01 ∷ 0xBC ∷ 0x00 ∷ 0x00 ∷ 0x00 ∷ 0x2C ∷ 0x00 ∷ 0x00 ∷ 0x00 ∷ 0x00 ∷ 0xE1 ∷ 0xE2
-    ∷ 0xE0 ∷ 0xFF ∷ 0x00 ∷ 0x06 ∷ 0x41 ∷ 0x04 ∷ 0x00 ∷ 0x00 ∷ 0x00 ∷ 0x00
-    ∷ 0x00 ∷ 0x0F ∷ 0x8A ∷ 0xC1 ∷ 0x00 ∷ 0x0B ∷ 0x4C ∷ 0x03 ∷ 0x41 ∷ 0x31 ∷ 0x00 ∷ 0x50 ∷ 0x04 ∷ 0x00 ∷ 0x00 ∷ 0x00 ∷ 0x09 ∷ 0x00 ∷ []
-
--- and its remainder: M without a rate, and three pad bytes
+-- the remainder of M with rate 9: M without a rate, and three pad bytes
 abbrev pub unrated : List ℕ
-unrated =
-    0x00 ∷ 0x00 ∷ 0x00 ∷ 0x00 ∷ 0x01 ∷ 0xBC ∷ 0x00 ∷ 0x00 ∷ 0x00 ∷ 0x28 ∷ 0x00 ∷ 0x00 ∷ 0x00 ∷ 0x00 ∷ 0xE1 ∷ 0xE2
-    ∷ 0xE0 ∷ 0xFF ∷ 0x00 ∷ 0x06 ∷ 0x41 ∷ 0x04 ∷ 0x00 ∷ 0x00 ∷ 0x00 ∷ 0x00
-    ∷ 0x00 ∷ 0x09 ∷ 0x8A ∷ 0xC1 ∷ 0x00 ∷ 0x05 ∷ 0x4C ∷ 0x03 ∷ 0x41 ∷ 0x31 ∷ 0x00 ∷ 0x00 ∷ 0x00 ∷ 0x00 ∷ []
+unrated = headed 0xBC 0x28 ++ upToRate 0x09 0x05 ++ (0 ∷ 0 ∷ 0 ∷ [])
 
 -- numbers that are bytes, by a computed test
 bytesAre : List ℕ → Bool
@@ -83,33 +61,33 @@ bytes-are (b ∷ s) e = go (ltb b 256) refl e (bytes-are s)
     go true q e rest = (ltb-true _ _ q, rest e)
     go false q e rest = never (sym e)
 
--- first field 0 and one listed track, in all of them
-abbrev answer-1 : MapSays
-answer-1 =
-    record {
-      count = 1;
-      material =
-          record {
-            name = part.Absent;
-            first = value.Is 0;
-            last = value.Absent;
-            «mark_in» = value.Absent;
-            «mark_out» = value.Absent;
-            size = value.Absent;
-          };
-    }
+-- first field 0 and one listed track, in all of them; the shortest map says less: no track, and no first field
+abbrev pub shortest : List ℕ
+shortest = headed 0xBC 0x18 ++ (0xE0 ∷ 0xFF ∷ 0x00 ∷ 0x00 ∷ 0x00 ∷ 0x00 ∷ 0x00 ∷ 0x00 ∷ [])
+
+seen : (s : List ℕ) (m : MapSays) → bytesAre s ≡ true → be s 6 4 ≡ length s → mapAt s 0 ≡ map-answer.Says m → Accepted s
+seen s m b l e = record { bytes = λ i. by-number s (bytes-are s b) i .fits; alone = l; says = m; read = e }
+
+all-accepted : Accepted M × Accepted newer × Accepted reserved × Accepted shortest
+unfolding bytesAre be headerAt sizedAt packetAt knownType textOk items.split items.sectionOf items.sizeOf judge.formOf judge.isKnown judge.faultOf judge.countsAs judge.has judge.judgeItems judge.verdictOf find.find answer.valueOf answer.materialOf tracks.split tracks.tracksOf tracks.trackVerdict tracks.endVerdict tracks.judgeTracks tracks.tracksVerdict tracks.isListed tracks.listed map.afterMaterial map.layoutOf map.bothVerdict map.sectionsVerdict map.mapVerdict map.materialSays map.listedIn map.answerOf map.mapAt
+all-accepted = (
+  seen M (saying 1 (value.Is 0)) refl refl refl,
+  seen newer (saying 1 (value.Is 0)) refl refl refl,
+  seen reserved (saying 1 (value.Is 0)) refl refl refl,
+  seen shortest (saying 0 value.Absent) refl refl refl,
+)
 
 pub M-accepted : Accepted M
-unfolding bytesAre be headerAt sizedAt packetAt knownType textOk items.split items.sectionOf items.sizeOf judge.formOf judge.isKnown judge.faultOf judge.countsAs judge.has judge.judgeItems judge.verdictOf find.find answer.valueOf answer.materialOf tracks.split tracks.tracksOf tracks.trackVerdict tracks.endVerdict tracks.judgeTracks tracks.tracksVerdict tracks.isListed tracks.listed map.afterMaterial map.layoutOf map.bothVerdict map.sectionsVerdict map.mapVerdict map.materialSays map.listedIn map.answerOf map.mapAt
-M-accepted = record { bytes = λ i. by-number M (bytes-are M refl) i .fits; alone = refl; says = answer-1; read = refl }
+M-accepted = all-accepted .0
 
 pub newer-accepted : Accepted newer
-unfolding bytesAre be headerAt sizedAt packetAt knownType textOk items.split items.sectionOf items.sizeOf judge.formOf judge.isKnown judge.faultOf judge.countsAs judge.has judge.judgeItems judge.verdictOf find.find answer.valueOf answer.materialOf tracks.split tracks.tracksOf tracks.trackVerdict tracks.endVerdict tracks.judgeTracks tracks.tracksVerdict tracks.isListed tracks.listed map.afterMaterial map.layoutOf map.bothVerdict map.sectionsVerdict map.mapVerdict map.materialSays map.listedIn map.answerOf map.mapAt
-newer-accepted = record { bytes = λ i. by-number newer (bytes-are newer refl) i .fits; alone = refl; says = answer-1; read = refl }
+newer-accepted = all-accepted .1
 
 pub reserved-accepted : Accepted reserved
-unfolding bytesAre be headerAt sizedAt packetAt knownType textOk items.split items.sectionOf items.sizeOf judge.formOf judge.isKnown judge.faultOf judge.countsAs judge.has judge.judgeItems judge.verdictOf find.find answer.valueOf answer.materialOf tracks.split tracks.tracksOf tracks.trackVerdict tracks.endVerdict tracks.judgeTracks tracks.tracksVerdict tracks.isListed tracks.listed map.afterMaterial map.layoutOf map.bothVerdict map.sectionsVerdict map.mapVerdict map.materialSays map.listedIn map.answerOf map.mapAt
-reserved-accepted = record { bytes = λ i. by-number reserved (bytes-are reserved refl) i .fits; alone = refl; says = answer-1; read = refl }
+reserved-accepted = all-accepted .2
+
+pub shortest-accepted : Accepted shortest
+shortest-accepted = all-accepted .3
 
 -- `7E 01 55` set in after the two items of the first track gives 01's map
 abbrev pub item : Item
@@ -176,31 +154,6 @@ M-answers = rw (← M-shown) (answers M M-accepted)
 
 pub newer-answers : Answers newer M-shows
 newer-answers = rw (← M-shown, newer-alike .1) (answers newer newer-accepted)
-
--- the shortest map says less: no track, and no first field
-abbrev pub shortest : List ℕ
-shortest =
-    0x00 ∷ 0x00 ∷ 0x00 ∷ 0x00 ∷ 0x01 ∷ 0xBC ∷ 0x00 ∷ 0x00 ∷ 0x00 ∷ 0x18 ∷ 0x00 ∷ 0x00 ∷ 0x00 ∷ 0x00 ∷ 0xE1 ∷ 0xE2
-    ∷ 0xE0 ∷ 0xFF ∷ 0x00 ∷ 0x00 ∷ 0x00 ∷ 0x00 ∷ 0x00 ∷ 0x00 ∷ []
-
-abbrev answer-0 : MapSays
-answer-0 =
-    record {
-      count = 0;
-      material =
-          record {
-            name = part.Absent;
-            first = value.Absent;
-            last = value.Absent;
-            «mark_in» = value.Absent;
-            «mark_out» = value.Absent;
-            size = value.Absent;
-          };
-    }
-
-pub shortest-accepted : Accepted shortest
-unfolding bytesAre be headerAt sizedAt packetAt knownType textOk items.split items.sectionOf items.sizeOf judge.formOf judge.isKnown judge.faultOf judge.countsAs judge.has judge.judgeItems judge.verdictOf find.find answer.valueOf answer.materialOf tracks.split tracks.tracksOf tracks.trackVerdict tracks.endVerdict tracks.judgeTracks tracks.tracksVerdict tracks.isListed tracks.listed map.afterMaterial map.layoutOf map.bothVerdict map.sectionsVerdict map.mapVerdict map.materialSays map.listedIn map.answerOf map.mapAt
-shortest-accepted = record { bytes = λ i. by-number shortest (bytes-are shortest refl) i .fits; alone = refl; says = answer-0; read = refl }
 
 shortest-count : shownIn shortest .count ≡ 0
 unfolding be knownType items.split items.sectionOf find.find answer.valueOf answer.allowed answer.codeOf answer.isNull answer.materialOf answer.trackOf judge.has tracks.split tracks.tracksOf tracks.isListed tracks.listed tracks.recordOf map.afterMaterial map.layoutOf map.materialSays map.listedIn shown.materialShown shown.trackShown shown.shownIn

@@ -17,7 +17,7 @@ use Rattle.items.specs.declared.Section.the-variants as section
 use Rattle.items.specs.declared.Form.{Form}
 use Rattle.items.specs.declared.Form.the-variants as form
 use Rattle.items.specs.declared.Verdict.the-variants.{Accepted}
-use Rattle.items.proofs.Anywhere.{not-accepted, judge-anywhere}
+use Rattle.items.proofs.Anywhere.{not-accepted, item-anywhere, judge-anywhere}
 use Rattle.answer.specs.Answer.{valueOf, codeOf}
 use Rattle.answer.specs.declared.Code.{Code}
 use Rattle.answer.specs.declared.Code.the-variants as code
@@ -103,24 +103,7 @@ set-good section seen p q zero i is u e =
     rw (unknown-sound (formOf section (i .tag)) (i .value) u, u) (judge-anywhere section seen p (q + 2 + length (i .value)) is e)
 set-good section seen p q (suc k) i [] u e = rw (unknown-sound (formOf section (i .tag)) (i .value) u, u)
 set-good section seen p q (suc k) i (x ∷ is) u e =
-    go (eqb (faultOf (formOf section (x .tag)) (x .value)) 0) (isKnown (formOf section (x .tag))) (has (countsAs (x .tag)) seen)
-    (λ z. set-good section z (p + 2 + length (x .value)) (q + 2 + length (x .value)) k i is u) e
-  where
-    go : (a b d : Bool) → ((z : List ℕ) → judgeItems section z (p + 2 + length (x .value)) is ≡ Accepted → judgeItems section z (q + 2 + length (x .value)) (setAt k i is) ≡ Accepted)
-        → pick a
-        (pick b
-        (pick d (bad 10 p) (judgeItems section (countsAs (x .tag) ∷ seen) (p + 2 + length (x .value)) is))
-        (judgeItems section seen (p + 2 + length (x .value)) is))
-        (bad (faultOf (formOf section (x .tag)) (x .value)) p) ≡ Accepted
-        → pick a
-        (pick b
-        (pick d (bad 10 q) (judgeItems section (countsAs (x .tag) ∷ seen) (q + 2 + length (x .value)) (setAt k i is)))
-        (judgeItems section seen (q + 2 + length (x .value)) (setAt k i is)))
-        (bad (faultOf (formOf section (x .tag)) (x .value)) q) ≡ Accepted
-    go true true true h e = not-accepted 10 p e
-    go true true false h e = h (countsAs (x .tag) ∷ seen) e
-    go true false d h e = h seen e
-    go false b d h e = not-accepted (faultOf (formOf section (x .tag)) (x .value)) p e
+    item-anywhere section seen p q x _ _ (λ z. set-good section z (p + 2 + length (x .value)) (q + 2 + length (x .value)) k i is u) e
 
 -- the bytes they take
 pub kept-size : (stays : Item → Bool) (is : List Item) → sizeOf (kept stays is) ≤ sizeOf is

@@ -5,7 +5,7 @@ use mathlib.Core.Bool.{Bool, true, false}
 use mathlib.Core.List.{List, [], _∷_, _++_, map}
 use native.Mathlib.Omega.{arith}
 use lib.ListN.{length}
-use Rattle.plate.specs.Choice.{pick}
+use Rattle.plate.specs.Choice.{pick, within}
 use Rattle.number.specs.Number.{beBytes}
 use Rattle.number.proofs.Bytes.{AllBytes, bytes-join, bytes-left, bytes-right, bytes-number}
 use Rattle.items.specs.Items.{Item, bytesOf}
@@ -103,48 +103,24 @@ set-tracks-good ids (suc j) k i (t ∷ ts) u e =
     (record { kind = w .kind; id = w .id; fresh = w .fresh; items = w .items; rest = set-tracks-good (t .id ∷ ids) j k i ts u (w .rest) })
 
 -- a struck track says what the track says
-stays-4C : (i : Item) → i .tag ≡ 0x4C → trackStays i ≡ true
-unfolding trackStays formOf isKnown
-stays-4C i e = rw e
-
-stays-4D : (i : Item) → i .tag ≡ 0x4D → trackStays i ≡ true
-unfolding trackStays formOf isKnown
-stays-4D i e = rw e
-
-stays-4E : (i : Item) → i .tag ≡ 0x4E → trackStays i ≡ true
-unfolding trackStays formOf isKnown
-stays-4E i e = rw e
-
-stays-4F : (i : Item) → i .tag ≡ 0x4F → trackStays i ≡ true
-unfolding trackStays formOf isKnown
-stays-4F i e = rw e
-
-known-50 : isKnown (formOf section.Track 0x50) ≡ true
-unfolding formOf isKnown
-known-50 = refl
-
-known-51 : isKnown (formOf section.Track 0x51) ≡ true
-unfolding formOf isKnown
-known-51 = refl
-
-known-52 : isKnown (formOf section.Track 0x52) ≡ true
-unfolding formOf isKnown
-known-52 = refl
+stays : (tag : ℕ) → isKnown (formOf section.Track tag) ≡ true → within 0x50 0x52 tag ≡ false → (i : Item) → i .tag ≡ tag → trackStays i ≡ true
+unfolding trackStays
+stays tag k c i e = rw (e, k, c)
 
 pub struck-track-said : (t : TrackParts) → judgeItems section.Track [] 0 (t .items) ≡ Accepted → trackSaid (struckTrack t) ≡ trackSaid t
-unfolding trackSaid struckTrack
+unfolding trackSaid struckTrack formOf isKnown
 struck-track-said t e =
     let is = t .items in
-    let name = kept-held 0x4C trackStays stays-4C 0 0 is in
+    let name = kept-held 0x4C trackStays (stays 0x4C refl refl) 0 0 is in
     rw (
-      kept-code 0x50 known-50 refl [] 0 0 0 is e,
-      kept-code 0x51 known-51 refl [] 0 0 0 is e,
-      kept-code 0x52 known-52 refl [] 0 0 0 is e,
+      kept-code 0x50 refl refl [] 0 0 0 is e,
+      kept-code 0x51 refl refl [] 0 0 0 is e,
+      kept-code 0x52 refl refl [] 0 0 0 is e,
       same-null (find 0x4C 0 (kept trackStays is)) (find 0x4C 0 is) name,
       name,
-      same-value (find 0x4E 0 (kept trackStays is)) (find 0x4E 0 is) (kept-held 0x4E trackStays stays-4E 0 0 is),
-      kept-held 0x4D trackStays stays-4D 0 0 is,
-      kept-held 0x4F trackStays stays-4F 0 0 is,
+      same-value (find 0x4E 0 (kept trackStays is)) (find 0x4E 0 is) (kept-held 0x4E trackStays (stays 0x4E refl refl) 0 0 is),
+      kept-held 0x4D trackStays (stays 0x4D refl refl) 0 0 is,
+      kept-held 0x4F trackStays (stays 0x4F refl refl) 0 0 is,
     )
 
 -- and the struck tracks say what the listed tracks say

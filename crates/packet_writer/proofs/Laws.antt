@@ -15,7 +15,6 @@ use Rattle.packet.specs.Packet.{headerAt}
 use Rattle.packet.specs.declared.Packet.{Packet}
 use Rattle.packet.specs.declared.PacketAnswer.the-variants.{Whole}
 use Rattle.packet.proofs.Edge.{anywhere}
-use Rattle.packet_writer.specs.declared.WriteAnswer.the-variants.{Length}
 use Rattle.packet_writer.specs.Write.{headerOf, over, after}
 
 pub length-header : (kind len : ℕ) → length (headerOf kind len) ≡ 16
@@ -63,10 +62,6 @@ module _ (out : List ℕ) (at : ℕ) (p : List ℕ) (h : at + length p ≤ lengt
         after = drop-at (q ++ p) r (at + length p) l;
         lengths = rw (three, length-append, length-append, length-drop, in-front) (omega arith);
       }
-
-  -- so is a packet whose length was answered
-  pub answered-stands : (n : ℕ) → Framed out at p (after out at p (Length n))
-  answered-stands n = framed
 
   -- a packet whose header is read in front of anything is read at its place
   pub header-stands : (w : Packet) → ((s : List ℕ) → headerAt (p ++ s) 0 ≡ Whole w) → headerAt (over out at p) at ≡ Whole w

@@ -1,12 +1,13 @@
 -- What the functions over one parameter rest on.
 use Prim.Native.Nat.{ℕ, zero, suc, _-_, _^_, _<_, _≤_}
-use mathlib.Core.Path.{_≡_, refl}
-use mathlib.Core.Bool.{Bool, true, false}
+use mathlib.Core.Path.{_≡_, refl, sym, subst}
+use mathlib.Core.Bool.{Bool, true, false, not}
 use mathlib.Core.List.{List}
 use native.Mathlib.Omega.{arith}
 use borrow.Author.Tests.{ltb-true, leb-true}
 use lib.ListN.{getD}
-use lib.Dec.{ltb, leb}
+use lib.Dec.{T, ltb, leb}
+use lib.Ieee.{Float, nan, inf, fin, eq, isNan}
 use Rattle.plate.specs.Choice.{pick}
 use Rattle.decimal.specs.Decimal.{wholeOf, rateOf}
 use Rattle.decimal.specs.declared.Amount.the-variants.{Of}
@@ -47,3 +48,10 @@ pub lacking-turn : (slots : List ℕ) (k : ℕ) → 0 < k → lacking slots k �
 unfolding lacking
 lacking-turn slots zero h = absurd (omega arith)
 lacking-turn slots (suc n) h = let e : suc n - 1 ≡ n = omega arith in rw e
+
+-- a rate that equals itself is a number, so that it has bits
+pub no-nan : (x : Float) → eq x x ≡ true → T (not (isNan x))
+unfolding eq isNan
+no-nan nan h = subst T (sym h) tt
+no-nan (inf s) h = tt
+no-nan (fin s m e) h = tt

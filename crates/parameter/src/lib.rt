@@ -81,8 +81,8 @@ pub fn amount(k: usize, v: &[u8]) -> Amount
     ensures { λ r. ⌜ r ≡ amountOf (rowAt k) (now (v .entry)) ⌝ }
 {
     let r = row_at(k);
-    let rate = r.2;
-    if rate {
+    let as_rate = r.2;
+    if as_rate {
         return decimal::rate(v);
     }
     decimal::whole(v)

@@ -183,14 +183,23 @@ fn check_file(path: &[u8]) {
     show_check(&buffer[0..n]);
 }
 
-// The rate of an auxiliary text, held to the one that was computed outside.
-fn show_rate(text: &[u8], want: f64) {
+// A float's bits; of what is no number, which the library gives nowhere, 0.
+fn bits_of(x: f64) -> u64 {
+    if x == x {
+        let n = f64::to_bits(x);
+        return n;
+    }
+    0
+}
+
+// The rate of an auxiliary text, its bits held to those that were computed outside.
+fn show_rate(text: &[u8], want: u64) {
     match mpeg::read(text) {
         MpegAnswer::Given(p) => {
             let br = p.br;
             match br {
                 ParameterValue::Rate(x) => {
-                    if x == want {
+                    if bits_of(x) == want {
                         say(b"the float computed outside\n");
                         return;
                     }
@@ -208,7 +217,7 @@ fn show_rate(text: &[u8], want: f64) {
     }
 }
 
-fn rate_file(path: &[u8], value: &[u8], want: f64) {
+fn rate_file(path: &[u8], value: &[u8], want: u64) {
     let mut buffer = [0u8; 256];
     let n = load(path, &mut buffer);
     say(b"Br ");
@@ -217,35 +226,24 @@ fn rate_file(path: &[u8], value: &[u8], want: f64) {
     show_rate(&buffer[0..n], want);
 }
 
+// The bits of a rate that is refused are not looked at.
 fn rates() {
-    rate_file(b"br_0.txt", b"0.5", f64::from_bits(0x3FE0000000000000));
-    rate_file(
-        b"br_1.txt",
-        b"9007199254.740992",
-        f64::from_bits(0x4200C6F7A0B5ED8D),
-    );
-    rate_file(b"br_2.txt", b"9007199254.740993", 0.0);
-    rate_file(b"br_3.txt", b"0", f64::from_bits(0x0000000000000000));
-    rate_file(b"br_4.txt", b"0.000001", f64::from_bits(0x3EB0C6F7A0B5ED8D));
-}
-
-fn more_rates() {
-    rate_file(b"br_5.txt", b"50000000", f64::from_bits(0x4187D78400000000));
-    rate_file(
-        b"br_6.txt",
-        b"1234567890",
-        f64::from_bits(0x41D26580B4800000),
-    );
-    rate_file(b"br_7.txt", b"12345678901", 0.0);
-    rate_file(b"br_8.txt", b"0.123456", f64::from_bits(0x3FBF9ACFFA7EB6BF));
-    rate_file(b"br_9.txt", b"0.1234567", 0.0);
+    rate_file(b"br_0.txt", b"0.5", 0x3FE0000000000000);
+    rate_file(b"br_1.txt", b"9007199254.740992", 0x4200C6F7A0B5ED8D);
+    rate_file(b"br_2.txt", b"9007199254.740993", 0);
+    rate_file(b"br_3.txt", b"0", 0x0000000000000000);
+    rate_file(b"br_4.txt", b"0.000001", 0x3EB0C6F7A0B5ED8D);
+    rate_file(b"br_5.txt", b"50000000", 0x4187D78400000000);
+    rate_file(b"br_6.txt", b"1234567890", 0x41D26580B4800000);
+    rate_file(b"br_7.txt", b"12345678901", 0);
+    rate_file(b"br_8.txt", b"0.123456", 0x3FBF9ACFFA7EB6BF);
+    rate_file(b"br_9.txt", b"0.1234567", 0);
 }
 
 fn main() {
     check_file(b"without_map_99.gxf");
     check_file(b"without_map_100.gxf");
     rates();
-    more_rates();
     stream_file(b"pal_one_frame.gxf");
     stream_file(b"pal_mpeg2.gxf");
     stream_file(b"ntsc_mpeg2.gxf");

@@ -5,13 +5,12 @@ use mathlib.Core.List.{List, [], _∷_}
 use mathlib.Core.Bool.{Bool, true, false}
 use native.Mathlib.Omega.{arith}
 use lib.ListN.{length, getD, take, drop, set}
-use lib.Dec.{eqb}
 use borrow.Author.Tests.{eq-eqb, ne-eqb}
 use Rattle.plate.specs.Choice.{pick}
 use Rattle.number.specs.Number.{be}
 use Rattle.items.specs.Items.{sectionOf}
 use Rattle.answer.specs.Answer.{trackOf}
-use Rattle.track_section.specs.Tracks.{Description, split, tracksOf, isListed, listed, recordOf, kthOf, idOf, typesOf}
+use Rattle.track_section.specs.Tracks.{Description, Placed, split, tracksOf, isListed, listed, recordOf, kthOf, idOf, keyOf, keyedOf, typesOf}
 use Rattle.track_section.specs.declared.Kth.the-variants.{Record}
 use Rattle.track_section.proofs.Split.{trackAt, items-length, split-done, split-short, split-over, split-track}
 
@@ -61,6 +60,16 @@ count-anywhere p q (d ∷ ds) = go (isListed d) (count-anywhere (p + 4 + length 
     go true e = ap suc e
     go false e = e
 
+-- a track more in front of the listed ones, or not
+module _ (d : Description) (p : ℕ) (ds : List Description) where
+  pub unlisted-passed : isListed d ≡ false → listed p (d ∷ ds) ≡ listed (p + 4 + length (d .items)) ds
+  unfolding listed
+  unlisted-passed e = rw e
+
+  pub listed-first : isListed d ≡ true → listed p (d ∷ ds) ≡ record { at = p; track = d } ∷ listed (p + 4 + length (d .items)) ds
+  unfolding listed
+  listed-first e = rw e
+
 module _ (d : Description) where
   -- one track more, in each measure
   pub count-turn : (m : ℕ) (ds : List Description) → m + length (listed 0 (d ∷ ds)) ≡ m + pick (isListed d) 1 0 + length (listed 0 ds)
@@ -72,64 +81,39 @@ module _ (d : Description) where
       go true e = omega arith
       go false e = omega arith
 
-  pub kth-other : (k p : ℕ) → isListed d ≡ false → (ds : List Description) → kthOf k (listed p (d ∷ ds)) ≡ kthOf k (listed (p + 4 + length (d .items)) ds)
-  unfolding listed
-  kth-other k p e ds = rw e
-
-  pub kth-later : (k p : ℕ) → zero < k → isListed d ≡ true → (ds : List Description) → kthOf k (listed p (d ∷ ds)) ≡ kthOf (k - 1) (listed (p + 4 + length (d .items)) ds)
-  unfolding listed kthOf
-  kth-later zero p h e ds = absurd (omega arith)
-  kth-later (suc k) p h e ds = let a : suc k - 1 ≡ k = omega arith in rw (e, a)
-
-  pub kth-here : (p : ℕ) → isListed d ≡ true → (ds : List Description) → kthOf 0 (listed p (d ∷ ds)) ≡ Record (recordOf (record { at = p; track = d }))
-  unfolding listed kthOf
-  kth-here p e ds = rw e
-
-  pub id-other : (id p : ℕ) → isListed d ≡ false → (ds : List Description) → idOf id (listed p (d ∷ ds)) ≡ idOf id (listed (p + 4 + length (d .items)) ds)
-  unfolding listed
-  id-other id p e ds = rw e
-
-  pub id-listed : (id p : ℕ) → isListed d ≡ true → (ds : List Description)
-      → idOf id (listed p (d ∷ ds)) ≡ pick (eqb (d .id - 0xC0) id) (Record (recordOf (record { at = p; track = d }))) (idOf id (listed (p + 4 + length (d .items)) ds))
-  unfolding listed idOf
-  id-listed id p e ds = rw e
-
   pub type-turn : (t : List ℕ) (ds : List Description) → typesOf t (d ∷ ds) ≡ typesOf (pick (isListed d) (set t (d .id - 0xC0) (d .kind - 0x80)) t) ds
   unfolding typesOf
   type-turn t ds = refl
 
--- the k-th track from a place on: one that is not listed, one before it, and it
-module _ (s : List ℕ) (base at n : ℕ) (h : n ≤ length s - at - 4) where
+-- what is asked for by its number is the k-th, and what is asked for by its ID is the track of that ID
+pub keyed-number : (k n wanted : ℕ) → wanted ≡ n + k → (xs : List Placed) → keyedOf false n wanted xs ≡ kthOf k xs
+unfolding keyedOf keyOf kthOf
+keyed-number k n w e [] = refl
+keyed-number zero n w e (x ∷ xs) = rw (eq-eqb n w (omega arith))
+keyed-number (suc k) n w e (x ∷ xs) = rw (ne-eqb n w (omega arith)) (keyed-number k (n + 1) w (omega arith) xs)
+
+pub keyed-id : (id n : ℕ) (xs : List Placed) → keyedOf true n id xs ≡ idOf id xs
+unfolding keyedOf keyOf idOf
+keyed-id id n [] = refl
+keyed-id id n (x ∷ xs) = rw (keyed-id id (n + 1) xs)
+
+-- the track asked for, from a place on: one that is not listed, one before it, and it
+module _ (s : List ℕ) (base at n : ℕ) (h : n ≤ length s - at - 4) (named : Bool) (before wanted : ℕ) where
   next : base + at + 4 + length (trackAt s at n .items) ≡ base + (at + 4 + n)
   next = omega (arith, items-length s at n h)
 
-  pub pass-other : (k : ℕ) → isListed (trackAt s at n) ≡ false → (ds : List Description)
-      → kthOf k (listed (base + at) (trackAt s at n ∷ ds)) ≡ kthOf k (listed (base + (at + 4 + n)) ds)
-  pass-other k e ds = kth-other (trackAt s at n) k (base + at) e ds ∙ rw next
+  pub pass-other : isListed (trackAt s at n) ≡ false → (ds : List Description)
+      → keyedOf named before wanted (listed (base + at) (trackAt s at n ∷ ds)) ≡ keyedOf named before wanted (listed (base + (at + 4 + n)) ds)
+  pass-other e ds = rw (unlisted-passed (trackAt s at n) (base + at) ds e, next)
 
-  pub pass-listed : (k : ℕ) → (k ≡ 0 → ⊥) → isListed (trackAt s at n) ≡ true → (ds : List Description)
-      → kthOf k (listed (base + at) (trackAt s at n ∷ ds)) ≡ kthOf (k - 1) (listed (base + (at + 4 + n)) ds)
-  pass-listed k z e ds = kth-later (trackAt s at n) k (base + at) (omega arith) e ds ∙ rw next
+  pub pass-listed : (keyOf named before (getD s (at + 1) 0) ≡ wanted → ⊥) → isListed (trackAt s at n) ≡ true → (ds : List Description)
+      → keyedOf named before wanted (listed (base + at) (trackAt s at n ∷ ds)) ≡ keyedOf named (before + 1) wanted (listed (base + (at + 4 + n)) ds)
+  unfolding keyedOf
+  pass-listed z e ds = rw (listed-first (trackAt s at n) (base + at) ds e, ne-eqb _ _ z, next)
 
-  pub here : (k : ℕ) → k ≡ 0 → isListed (trackAt s at n) ≡ true → (ds : List Description)
-      → kthOf k (listed (base + at) (trackAt s at n ∷ ds)) ≡ Record (trackOf (getD s at 0) (getD s (at + 1) 0) (base + (at + 4)) (sectionOf (take n (drop (at + 4) s)) .items))
-  unfolding recordOf
-  here k z e ds =
+  pub here : keyOf named before (getD s (at + 1) 0) ≡ wanted → isListed (trackAt s at n) ≡ true → (ds : List Description)
+      → keyedOf named before wanted (listed (base + at) (trackAt s at n ∷ ds)) ≡ Record (trackOf (getD s at 0) (getD s (at + 1) 0) (base + (at + 4)) (sectionOf (take n (drop (at + 4) s)) .items))
+  unfolding keyedOf recordOf
+  here z e ds =
       let a : base + at + 4 ≡ base + (at + 4) = omega arith in
-      rw z (kth-here (trackAt s at n) (base + at) e ds ∙ rw a)
-
-  pub id-pass-other : (id : ℕ) → isListed (trackAt s at n) ≡ false → (ds : List Description)
-      → idOf id (listed (base + at) (trackAt s at n ∷ ds)) ≡ idOf id (listed (base + (at + 4 + n)) ds)
-  id-pass-other id e ds = id-other (trackAt s at n) id (base + at) e ds ∙ rw next
-
-  module _ (id : ℕ) (e : isListed (trackAt s at n) ≡ true) where
-    pub id-pass-listed : (getD s (at + 1) 0 - 0xC0 ≡ id → ⊥) → (ds : List Description)
-        → idOf id (listed (base + at) (trackAt s at n ∷ ds)) ≡ idOf id (listed (base + (at + 4 + n)) ds)
-    id-pass-listed z ds = id-listed (trackAt s at n) id (base + at) e ds ∙ rw (ne-eqb _ _ z, next)
-
-    pub id-here : getD s (at + 1) 0 - 0xC0 ≡ id → (ds : List Description)
-        → idOf id (listed (base + at) (trackAt s at n ∷ ds)) ≡ Record (trackOf (getD s at 0) (getD s (at + 1) 0) (base + (at + 4)) (sectionOf (take n (drop (at + 4) s)) .items))
-    unfolding recordOf
-    id-here z ds =
-        let a : base + at + 4 ≡ base + (at + 4) = omega arith in
-        id-listed (trackAt s at n) id (base + at) e ds ∙ rw (eq-eqb _ _ z, a)
+      rw (listed-first (trackAt s at n) (base + at) ds e, eq-eqb _ _ z, a)

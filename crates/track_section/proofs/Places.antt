@@ -13,7 +13,7 @@ use Rattle.answer.specs.declared.Track.{Track}
 use Rattle.answer.proofs.Laws.{stands}
 use Rattle.items.specs.Items.{sectionOf}
 use Rattle.items.specs.Find.{find, partOf}
-use Rattle.track_section.proofs.Listed.{id-listed, id-other}
+use Rattle.track_section.proofs.Listed.{listed-first, unlisted-passed}
 use Rattle.track_section.specs.Tracks.{Description, Placed, tracksOf, sizeOf, isListed, listed, recordOf, idOf}
 use Rattle.track_section.specs.declared.Kth.the-variants.{Record}
 use Rattle.track_section.proofs.Split.{section-size}
@@ -40,8 +40,8 @@ listed-stands id base (d ∷ ds) t q n e f = go (isListed d) refl (λ g. listed-
     go : (a : Bool) → isListed d ≡ a
         → (idOf id (listed (base + 4 + length (d .items)) ds) ≡ Record t → q + n ≤ base + 4 + length (d .items) + sizeOf ds)
         → q + n ≤ base + (4 + length (d .items) + sizeOf ds)
-    go true k later = here (eqb (d .id - 0xC0) id) (sym (id-listed d id base k ds) ∙ e) later
-    go false k later = omega (arith, later (sym (id-other d id base k ds) ∙ e))
+    go true k later = here (eqb (d .id - 0xC0) id) (sym (ap (idOf id) (listed-first d base ds k)) ∙ e) later
+    go false k later = omega (arith, later (sym (ap (idOf id) (unlisted-passed d base ds k)) ∙ e))
 
 pub name-stands : (id base : ℕ) (s : List ℕ) (t : Track) (q n : ℕ) → idOf id (listed base (tracksOf s .list)) ≡ Record t → t .name ≡ At q n → q + n ≤ base + length s
 name-stands id base s t q n e f = let a = listed-stands id base (tracksOf s .list) t q n e f in omega (arith, section-size s)

@@ -124,6 +124,14 @@ unfoldable pub idOf : ℕ → List Placed → Kth
 idOf id [] = Nothing
 idOf id (x ∷ xs) = pick (eqb (x .track .id - 0xC0) id) (Record (recordOf x)) (idOf id xs)
 
+-- both in one, for the code alone: what a track is asked for by, its bare ID or how many stand before it, and the record of the first for which that is wanted
+unfoldable pub keyOf : Bool → ℕ → ℕ → ℕ
+keyOf named before id = pick named (id - 0xC0) before
+
+unfoldable pub keyedOf : Bool → ℕ → ℕ → List Placed → Kth
+keyedOf named before wanted [] = Nothing
+keyedOf named before wanted (x ∷ xs) = pick (eqb (keyOf named before (x .track .id)) wanted) (Record (recordOf x)) (keyedOf named (before + 1) wanted xs)
+
 -- by ID, the media type under which a track is listed, and 0 where none is
 unfoldable pub typesOf : List ℕ → List Description → List ℕ
 typesOf types [] = types

@@ -10,7 +10,7 @@ ghost use lib.ListN.{length, set, replicate};
 ghost use Rattle.plate.specs.Choice.{pick};
 ghost use Rattle.media_type.specs.MediaType.{knownType};
 ghost use Rattle.track_section.specs.Seen.{holds, Empty, Adds};
-ghost use Rattle.track_section.specs.Tracks.{trackVerdict, tracksOf, tracksVerdict, listed, kthOf, idOf, typesOf};
+ghost use Rattle.track_section.specs.Tracks.{trackVerdict, tracksOf, tracksVerdict, listed, kthOf, idOf, keyOf, keyedOf, typesOf};
 
 // The track IDs seen so far.
 pub struct Seen {
@@ -152,12 +152,22 @@ pub fn count(s: &[u8]) -> usize
     found
 }
 
-// The record of the k-th listed track, from 0, of a section that begins at place base of its packet.
-pub fn kth_record(s: &[u8], base: usize, k: usize) -> Kth
-    requires { ⌜ base + length (now s) < 2 ^ 64 ⌝ }
-    ensures { λ r. ⌜ r ≡ kthOf k (listed base (tracksOf (now (s .entry)) .list)) ⌝ }
+// What a listed track is asked for by: its ID, or the number of listed tracks before it.
+fn key(named: bool, before: usize, id: u8) -> usize
+    ensures { λ r. ⌜ r ≡ keyOf named before id ⌝ }
 {
-    let mut before = k;
+    if named {
+        return number::wide(answer::bare(id, 0xC0));
+    }
+    before
+}
+
+// The record of the first listed track whose key is wanted, of a section that begins at place base of its packet.
+fn record_by(s: &[u8], base: usize, named: bool, wanted: usize) -> Kth
+    requires { ⌜ base + length (now s) < 2 ^ 64 ⌝ }
+    ensures { λ r. ⌜ r ≡ keyedOf named 0 wanted (listed base (tracksOf (now (s .entry)) .list)) ⌝ }
+{
+    let mut before: usize = 0;
     let mut at: usize = 0;
     while at < s.len() {
         let left = s.len() - at;
@@ -171,15 +181,24 @@ pub fn kth_record(s: &[u8], base: usize, k: usize) -> Kth
         let a = at + 4;
         let e = a + n;
         let kind = s[at];
+        let id = s[at + 1];
         if is_listed(kind) {
-            if before == 0 {
-                return Kth::Record(answer::record(kind, s[at + 1], &s[a..e], base + a));
+            if key(named, before, id) == wanted {
+                return Kth::Record(answer::record(kind, id, &s[a..e], base + a));
             }
-            before -= 1;
+            before += 1;
         }
         at = e;
     }
     Kth::Nothing
+}
+
+// The record of the k-th listed track, from 0, of a section that begins at place base of its packet.
+pub fn kth_record(s: &[u8], base: usize, k: usize) -> Kth
+    requires { ⌜ base + length (now s) < 2 ^ 64 ⌝ }
+    ensures { λ r. ⌜ r ≡ kthOf k (listed base (tracksOf (now (s .entry)) .list)) ⌝ }
+{
+    record_by(s, base, false, k)
 }
 
 // The record of the listed track of an ID, of a section that begins at place base of its packet.
@@ -187,27 +206,7 @@ pub fn record_of_id(s: &[u8], base: usize, id: usize) -> Kth
     requires { ⌜ base + length (now s) < 2 ^ 64 ⌝ }
     ensures { λ r. ⌜ r ≡ idOf id (listed base (tracksOf (now (s .entry)) .list)) ⌝ }
 {
-    let mut at: usize = 0;
-    while at < s.len() {
-        let left = s.len() - at;
-        if left < 4 {
-            return Kth::Nothing;
-        }
-        let n = number::be_at(s, at + 2, 2);
-        if left - 4 < n {
-            return Kth::Nothing;
-        }
-        let a = at + 4;
-        let e = a + n;
-        if is_listed(s[at]) {
-            let found = number::wide(answer::bare(s[at + 1], 0xC0));
-            if found == id {
-                return Kth::Record(answer::record(s[at], s[at + 1], &s[a..e], base + a));
-            }
-        }
-        at = e;
-    }
-    Kth::Nothing
+    record_by(s, base, true, id)
 }
 
 // The listed IDs of a section, with their types.

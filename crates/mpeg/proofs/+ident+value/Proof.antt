@@ -43,284 +43,9 @@ value-at t = and 2 value-kinds.ps (is 2 value-kinds.ps μ-value t) value.Pre
 abbrev value-below : ℕ → In 2 value-kinds.ps
 value-below t = and 2 value-kinds.ps (falls 2 value-kinds.ps _<_ μ-value t) value.Pre
 
-ident-skip-requires : (t : ℕ) → ident-lts.Need-skip-requires (
-  skip-reads.Asked,
-  skip-reads.Learnt,
-  label-at-reads.Asked,
-  label-at-reads.Learnt,
-  refuse-reads.Asked,
-  refuse-reads.Learnt,
-  value-below t,
-  value.Post,
-) (ident-at t) ident.Post
-ident-skip-requires t c κs = search needs
-
-ident-label-at-requires : (t : ℕ) → ident-lts.Need-label-at-requires (
-  skip-reads.Asked,
-  skip-reads.Learnt,
-  label-at-reads.Asked,
-  label-at-reads.Learnt,
-  refuse-reads.Asked,
-  refuse-reads.Learnt,
-  value-below t,
-  value.Post,
-) (ident-at t) ident.Post
-ident-label-at-requires t c κs = search needs
-
-ident-enum-told : (t : ℕ) → ident-lts.Need-enum-told (
-  skip-reads.Asked,
-  skip-reads.Learnt,
-  label-at-reads.Asked,
-  label-at-reads.Learnt,
-  refuse-reads.Asked,
-  refuse-reads.Learnt,
-  value-below t,
-  value.Post,
-) (ident-at t) ident.Post
-ident-enum-told t c = search needs
-
-ident-refuse-requires : (t : ℕ) → ident-lts.Need-refuse-requires (
-  skip-reads.Asked,
-  skip-reads.Learnt,
-  label-at-reads.Asked,
-  label-at-reads.Learnt,
-  refuse-reads.Asked,
-  refuse-reads.Learnt,
-  value-below t,
-  value.Post,
-) (ident-at t) ident.Post
-ident-refuse-requires t c κs = search needs
-
-ident-enum-known-k : (t : ℕ) → ident-lts.Need-enum-known-k (
-  skip-reads.Asked,
-  skip-reads.Learnt,
-  label-at-reads.Asked,
-  label-at-reads.Learnt,
-  refuse-reads.Asked,
-  refuse-reads.Learnt,
-  value-below t,
-  value.Post,
-) (ident-at t) ident.Post
-ident-enum-known-k t c = search needs
-
-ident-value-requires : (t : ℕ) → ident-lts.Need-value-requires (
-  skip-reads.Asked,
-  skip-reads.Learnt,
-  label-at-reads.Asked,
-  label-at-reads.Learnt,
-  refuse-reads.Asked,
-  refuse-reads.Learnt,
-  value-below t,
-  value.Post,
-) (ident-at t) ident.Post
-ident-value-requires t c κs =
-    let g = label-in (c .before .before .before .before .before .before .before .before .args .s .now) (c .before .before .before .before .before .before .skip .result) _ _ (sym (c .before .before .before .before .label-at .ensures) ∙ c .before .before .k .given .1) in
-    (omega (arith, c .before .before .before .before .before .before .skip .ensures .0, c .before .before .before .before .before .before .before .before .pre .0), omega arith)
-
-ident-returns : (t : ℕ) → ident-lts.Need-returns (
-  skip-reads.Asked,
-  skip-reads.Learnt,
-  label-at-reads.Asked,
-  label-at-reads.Learnt,
-  refuse-reads.Asked,
-  refuse-reads.Learnt,
-  value-below t,
-  value.Post,
-) (ident-at t) ident.Post
-ident-returns t c =
-    let x = c .before .before .before .before .before .before .before .args .slots .now in
-    simp (c .before .before .before .before .before .skip .ensures .2 x ∙ judge-broken _ _ (c .before .before .before .before .if1 .taken) (sym (c .before .before .before .label-at .ensures) ∙ c .before .enum-told .given .1) x, c .refuse .ensures) (refl, refl)
-
-ident-returns-2 : (t : ℕ) → ident-lts.Need-returns-2 (
-  skip-reads.Asked,
-  skip-reads.Learnt,
-  label-at-reads.Asked,
-  label-at-reads.Learnt,
-  refuse-reads.Asked,
-  refuse-reads.Learnt,
-  value-below t,
-  value.Post,
-) (ident-at t) ident.Post
-ident-returns-2 t c =
-    let x = c .before .before .before .before .before .before .before .before .before .args .slots .now in
-    rw (c .before .before .before .before .before .before .before .skip .ensures .2 x ∙ judge-names _ _ (c .before .before .before .before .before .before .if1 .taken) _ _ (sym (c .before .before .before .before .before .label-at .ensures) ∙ c .before .before .before .k .given .1) x) (c .value .ensures)
-
-ident-returns-3 : (t : ℕ) → ident-lts.Need-returns-3 (
-  skip-reads.Asked,
-  skip-reads.Learnt,
-  label-at-reads.Asked,
-  label-at-reads.Learnt,
-  refuse-reads.Asked,
-  refuse-reads.Learnt,
-  value-below t,
-  value.Post,
-) (ident-at t) ident.Post
-ident-returns-3 t c = let x = c .before .before .before .args .slots .now in simp (c .before .skip .ensures .2 x ∙ judge-end _ _ (c .if1 .left) x) (refl, refl)
-
-value-until-requires : (t : ℕ) → value-lts.Need-until-requires (
-  until-reads.Asked,
-  until-reads.Learnt,
-  take-line-reads.Asked,
-  take-line-reads.Learnt,
-  ident-below t,
-  ident.Post,
-  refuse-reads.Asked,
-  refuse-reads.Learnt,
-) (value-at t) value.Post
-value-until-requires t c κs = search needs
-
-value-sub-take-line : (t : ℕ) → value-lts.Need-sub-take-line (
-  until-reads.Asked,
-  until-reads.Learnt,
-  take-line-reads.Asked,
-  take-line-reads.Learnt,
-  ident-below t,
-  ident.Post,
-  refuse-reads.Asked,
-  refuse-reads.Learnt,
-) (value-at t) value.Post
-value-sub-take-line t c = let w : c .before .before .before .before .args .at ≤ c .before .before .until .result = rw (c .before .before .until .ensures) (run-from (other 0x0A) _ _) in omega arith
-
-value-part-take-line-start : (t : ℕ) → value-lts.Need-part-take-line-start (
-  until-reads.Asked,
-  until-reads.Learnt,
-  take-line-reads.Asked,
-  take-line-reads.Learnt,
-  ident-below t,
-  ident.Post,
-  refuse-reads.Asked,
-  refuse-reads.Learnt,
-) (value-at t) value.Post
-value-part-take-line-start t c = let w : c .before .before .before .before .args .at ≤ c .before .before .until .result = rw (c .before .before .until .ensures) (run-from (other 0x0A) _ _) in omega arith
-
-value-part-take-line-end : (t : ℕ) → value-lts.Need-part-take-line-end (
-  until-reads.Asked,
-  until-reads.Learnt,
-  take-line-reads.Asked,
-  take-line-reads.Learnt,
-  ident-below t,
-  ident.Post,
-  refuse-reads.Asked,
-  refuse-reads.Learnt,
-) (value-at t) value.Post
-value-part-take-line-end t c = search needs
-
-value-take-line-requires : (t : ℕ) → value-lts.Need-take-line-requires (
-  until-reads.Asked,
-  until-reads.Learnt,
-  take-line-reads.Asked,
-  take-line-reads.Learnt,
-  ident-below t,
-  ident.Post,
-  refuse-reads.Asked,
-  refuse-reads.Learnt,
-) (value-at t) value.Post
-value-take-line-requires t c κs = search needs
-
-value-enum-known-r : (t : ℕ) → value-lts.Need-enum-known-r (
-  until-reads.Asked,
-  until-reads.Learnt,
-  take-line-reads.Asked,
-  take-line-reads.Learnt,
-  ident-below t,
-  ident.Post,
-  refuse-reads.Asked,
-  refuse-reads.Learnt,
-) (value-at t) value.Post
-value-enum-known-r t c = search needs
-
-value-enum-told : (t : ℕ) → value-lts.Need-enum-told (
-  until-reads.Asked,
-  until-reads.Learnt,
-  take-line-reads.Asked,
-  take-line-reads.Learnt,
-  ident-below t,
-  ident.Post,
-  refuse-reads.Asked,
-  refuse-reads.Learnt,
-) (value-at t) value.Post
-value-enum-told t c = search needs
-
-value-add-ident : (t : ℕ) → value-lts.Need-add-ident (
-  until-reads.Asked,
-  until-reads.Learnt,
-  take-line-reads.Asked,
-  take-line-reads.Learnt,
-  ident-below t,
-  ident.Post,
-  refuse-reads.Asked,
-  refuse-reads.Learnt,
-) (value-at t) value.Post
-value-add-ident t c = search needs
-
-value-ident-requires : (t : ℕ) → value-lts.Need-ident-requires (
-  until-reads.Asked,
-  until-reads.Learnt,
-  take-line-reads.Asked,
-  take-line-reads.Learnt,
-  ident-below t,
-  ident.Post,
-  refuse-reads.Asked,
-  refuse-reads.Learnt,
-) (value-at t) value.Post
-value-ident-requires t c κs =
-    let w : c .before .before .before .before .before .before .before .before .before .args .at ≤ c .before .before .before .before .before .before .before .until .result = rw (c .before .before .before .before .before .before .before .until .ensures) (run-from (other 0x0A) _ _) in
-    (omega (arith, c .before .before .before .before .before .before .before .before .before .pre .0), omega arith)
-
-value-returns : (t : ℕ) → value-lts.Need-returns (
-  until-reads.Asked,
-  until-reads.Learnt,
-  take-line-reads.Asked,
-  take-line-reads.Learnt,
-  ident-below t,
-  ident.Post,
-  refuse-reads.Asked,
-  refuse-reads.Learnt,
-) (value-at t) value.Post
-value-returns t c =
-    rw (judge-fault _ _ _ _ _ _ (c .before .before .before .before .before .before .before .until .ensures) _ (c .before .before .before .before .before .before .if1 .taken) _ (sym (c .before .before .before .take-line .ensures .0) ∙ c .before .r .given .1)) (refl, c .before .before .before .take-line .ensures .1)
-
-value-returns-2 : (t : ℕ) → value-lts.Need-returns-2 (
-  until-reads.Asked,
-  until-reads.Learnt,
-  take-line-reads.Asked,
-  take-line-reads.Learnt,
-  ident-below t,
-  ident.Post,
-  refuse-reads.Asked,
-  refuse-reads.Learnt,
-) (value-at t) value.Post
-value-returns-2 t c =
-    rw (judge-taken _ _ _ _ _ _ (c .before .before .before .before .before .before .before .before .until .ensures) _ (c .before .before .before .before .before .before .before .if1 .taken) (sym (c .before .before .before .before .take-line .ensures .0) ∙ c .before .before .enum-told .given .1), ← c .before .before .before .before .take-line .ensures .1) (c .ident .ensures)
-
-value-refuse-requires : (t : ℕ) → value-lts.Need-refuse-requires (
-  until-reads.Asked,
-  until-reads.Learnt,
-  take-line-reads.Asked,
-  take-line-reads.Learnt,
-  ident-below t,
-  ident.Post,
-  refuse-reads.Asked,
-  refuse-reads.Learnt,
-) (value-at t) value.Post
-value-refuse-requires t c κs = search needs
-
-value-returns-3 : (t : ℕ) → value-lts.Need-returns-3 (
-  until-reads.Asked,
-  until-reads.Learnt,
-  take-line-reads.Asked,
-  take-line-reads.Learnt,
-  ident-below t,
-  ident.Post,
-  refuse-reads.Asked,
-  refuse-reads.Learnt,
-) (value-at t) value.Post
-value-returns-3 t c =
-    let a = c .before .before .before .before .args in
-    simp (judge-cut _ (a .line) (a .k) _ _ (linesAt (a .s .now)) (c .before .before .until .ensures) (a .slots .now) (c .before .if1 .left), c .refuse .ensures) (refl, refl)
-
-pub +ident+value-spec : {M : Type 1} → statement M
-+ident+value-spec = close μ-ident μ-value (λ t. ident-lts.spec (
+-- what is known of the functions that each of the two calls
+abbrev ident-claims : ℕ → ident-lts.Claims
+ident-claims t = (
   skip-reads.Asked,
   skip-reads.Learnt,
   label-at-reads.Asked,
@@ -330,6 +55,99 @@ pub +ident+value-spec : {M : Type 1} → statement M
   value-below t,
   value.Post,
 )
+
+abbrev value-claims : ℕ → value-lts.Claims
+value-claims t = (
+  until-reads.Asked,
+  until-reads.Learnt,
+  take-line-reads.Asked,
+  take-line-reads.Learnt,
+  ident-below t,
+  ident.Post,
+  refuse-reads.Asked,
+  refuse-reads.Learnt,
+)
+
+ident-skip-requires : (t : ℕ) → ident-lts.Need-skip-requires (ident-claims t) (ident-at t) ident.Post
+ident-skip-requires t c κs = search needs
+
+ident-label-at-requires : (t : ℕ) → ident-lts.Need-label-at-requires (ident-claims t) (ident-at t) ident.Post
+ident-label-at-requires t c κs = search needs
+
+ident-enum-told : (t : ℕ) → ident-lts.Need-enum-told (ident-claims t) (ident-at t) ident.Post
+ident-enum-told t c = search needs
+
+ident-refuse-requires : (t : ℕ) → ident-lts.Need-refuse-requires (ident-claims t) (ident-at t) ident.Post
+ident-refuse-requires t c κs = search needs
+
+ident-enum-known-k : (t : ℕ) → ident-lts.Need-enum-known-k (ident-claims t) (ident-at t) ident.Post
+ident-enum-known-k t c = search needs
+
+ident-value-requires : (t : ℕ) → ident-lts.Need-value-requires (ident-claims t) (ident-at t) ident.Post
+ident-value-requires t c κs =
+    let g = label-in (c .before .before .before .before .before .before .before .before .args .s .now) (c .before .before .before .before .before .before .skip .result) _ _ (sym (c .before .before .before .before .label-at .ensures) ∙ c .before .before .k .given .1) in
+    (omega (arith, c .before .before .before .before .before .before .skip .ensures .0, c .before .before .before .before .before .before .before .before .pre .0), omega arith)
+
+ident-returns : (t : ℕ) → ident-lts.Need-returns (ident-claims t) (ident-at t) ident.Post
+ident-returns t c =
+    let x = c .before .before .before .before .before .before .before .args .slots .now in
+    simp (c .before .before .before .before .before .skip .ensures .2 x ∙ judge-broken _ _ (c .before .before .before .before .if1 .taken) (sym (c .before .before .before .label-at .ensures) ∙ c .before .enum-told .given .1) x, c .refuse .ensures) (refl, refl)
+
+ident-returns-2 : (t : ℕ) → ident-lts.Need-returns-2 (ident-claims t) (ident-at t) ident.Post
+ident-returns-2 t c =
+    let x = c .before .before .before .before .before .before .before .before .before .args .slots .now in
+    rw (c .before .before .before .before .before .before .before .skip .ensures .2 x ∙ judge-names _ _ (c .before .before .before .before .before .before .if1 .taken) _ _ (sym (c .before .before .before .before .before .label-at .ensures) ∙ c .before .before .before .k .given .1) x) (c .value .ensures)
+
+ident-returns-3 : (t : ℕ) → ident-lts.Need-returns-3 (ident-claims t) (ident-at t) ident.Post
+ident-returns-3 t c = let x = c .before .before .before .args .slots .now in simp (c .before .skip .ensures .2 x ∙ judge-end _ _ (c .if1 .left) x) (refl, refl)
+
+value-until-requires : (t : ℕ) → value-lts.Need-until-requires (value-claims t) (value-at t) value.Post
+value-until-requires t c κs = search needs
+
+value-sub-take-line : (t : ℕ) → value-lts.Need-sub-take-line (value-claims t) (value-at t) value.Post
+value-sub-take-line t c = let w : c .before .before .before .before .args .at ≤ c .before .before .until .result = rw (c .before .before .until .ensures) (run-from (other 0x0A) _ _) in omega arith
+
+value-part-take-line-start : (t : ℕ) → value-lts.Need-part-take-line-start (value-claims t) (value-at t) value.Post
+value-part-take-line-start t c = let w : c .before .before .before .before .args .at ≤ c .before .before .until .result = rw (c .before .before .until .ensures) (run-from (other 0x0A) _ _) in omega arith
+
+value-part-take-line-end : (t : ℕ) → value-lts.Need-part-take-line-end (value-claims t) (value-at t) value.Post
+value-part-take-line-end t c = search needs
+
+value-take-line-requires : (t : ℕ) → value-lts.Need-take-line-requires (value-claims t) (value-at t) value.Post
+value-take-line-requires t c κs = search needs
+
+value-enum-known-r : (t : ℕ) → value-lts.Need-enum-known-r (value-claims t) (value-at t) value.Post
+value-enum-known-r t c = search needs
+
+value-enum-told : (t : ℕ) → value-lts.Need-enum-told (value-claims t) (value-at t) value.Post
+value-enum-told t c = search needs
+
+value-add-ident : (t : ℕ) → value-lts.Need-add-ident (value-claims t) (value-at t) value.Post
+value-add-ident t c = search needs
+
+value-ident-requires : (t : ℕ) → value-lts.Need-ident-requires (value-claims t) (value-at t) value.Post
+value-ident-requires t c κs =
+    let w : c .before .before .before .before .before .before .before .before .before .args .at ≤ c .before .before .before .before .before .before .before .until .result = rw (c .before .before .before .before .before .before .before .until .ensures) (run-from (other 0x0A) _ _) in
+    (omega (arith, c .before .before .before .before .before .before .before .before .before .pre .0), omega arith)
+
+value-returns : (t : ℕ) → value-lts.Need-returns (value-claims t) (value-at t) value.Post
+value-returns t c =
+    rw (judge-fault _ _ _ _ _ _ (c .before .before .before .before .before .before .before .until .ensures) _ (c .before .before .before .before .before .before .if1 .taken) _ (sym (c .before .before .before .take-line .ensures .0) ∙ c .before .r .given .1)) (refl, c .before .before .before .take-line .ensures .1)
+
+value-returns-2 : (t : ℕ) → value-lts.Need-returns-2 (value-claims t) (value-at t) value.Post
+value-returns-2 t c =
+    rw (judge-taken _ _ _ _ _ _ (c .before .before .before .before .before .before .before .before .until .ensures) _ (c .before .before .before .before .before .before .before .if1 .taken) (sym (c .before .before .before .before .take-line .ensures .0) ∙ c .before .before .enum-told .given .1), ← c .before .before .before .before .take-line .ensures .1) (c .ident .ensures)
+
+value-refuse-requires : (t : ℕ) → value-lts.Need-refuse-requires (value-claims t) (value-at t) value.Post
+value-refuse-requires t c κs = search needs
+
+value-returns-3 : (t : ℕ) → value-lts.Need-returns-3 (value-claims t) (value-at t) value.Post
+value-returns-3 t c =
+    let a = c .before .before .before .before .args in
+    simp (judge-cut _ (a .line) (a .k) _ _ (linesAt (a .s .now)) (c .before .before .until .ensures) (a .slots .now) (c .before .if1 .left), c .refuse .ensures) (refl, refl)
+
+pub +ident+value-spec : {M : Type 1} → statement M
++ident+value-spec = close μ-ident μ-value (λ t. ident-lts.spec (ident-claims t)
     (ident-at t)
     ident.Post
     (ident-skip-requires t)
@@ -341,16 +159,7 @@ pub +ident+value-spec : {M : Type 1} → statement M
     (ident-returns t)
     (ident-returns-2 t)
     (ident-returns-3 t))
-    λ t. value-lts.spec (
-      until-reads.Asked,
-      until-reads.Learnt,
-      take-line-reads.Asked,
-      take-line-reads.Learnt,
-      ident-below t,
-      ident.Post,
-      refuse-reads.Asked,
-      refuse-reads.Learnt,
-    )
+    λ t. value-lts.spec (value-claims t)
     (value-at t)
     value.Post
     (value-until-requires t)
