@@ -12,7 +12,7 @@ use Rattle.book.specs.declared.Entry.{Entry}
 use Rattle.book.specs.declared.LookupAnswer.{LookupAnswer}
 use Rattle.book.specs.declared.LookupAnswer.the-variants as lookup
 
--- the encoder: mark 47 58, ID, type, field number (32), packet offset (64), least significant first; 16 bytes
+-- the encoder: mark 47 58, ID, type, field number (32), packet offset (64), least significant first; 16 bytes. It is for a field number under 2^32 and an offset under 2^64: more would be cut
 unfoldable pub recordBytes : Entry → List ℕ
 recordBytes e = 0x47 ∷ 0x58 ∷ e .track ∷ e .kind ∷ (leBytes 4 (e .field) ++ leBytes 8 (e .at))
 
@@ -55,11 +55,11 @@ bookFrom s (suc f) at = pick (ltb at (length s)) (onSlot (bookFrom s f (at + 16)
 unfoldable pub bookOf : List ℕ → Book
 bookOf s = bookFrom s (suc (length s)) 0
 
--- as record n, where `last` is the offset of the record before it: but for record 0 an offset over the last
+-- offsets rise strictly: as record n, behind one of offset `last`; record 0 may have any
 unfoldable pub risesAt : ℕ → ℕ → ℕ → Bool
 risesAt n last offset = pick (eqb n 0) true (ltb last offset)
 
--- and an ID up to 63, and a known type
+-- a record may stand as record n: an ID up to 63, a known type, an offset that rises
 unfoldable pub stands : ℕ → ℕ → Entry → Bool
 stands n last e = pick (ltb 63 (e .track)) false (pick (knownType (e .kind)) (risesAt n last (e .at)) false)
 
@@ -73,6 +73,7 @@ unfoldable pub judge : ℕ → ℕ → List Entry → Bool → Verdict
 judge n last [] whole = pick whole good (bad n)
 judge n last (e ∷ es) whole = pick (stands n last e) (judge (n + 1) (e .at) es whole) (bad n)
 
+-- of a track and a field; that the type is known is what makes a record good
 abbrev pub isOf : ℕ → ℕ → Entry → Bool
 isOf track field e = pick (eqb (e .track) track) (eqb (e .field) field) false
 
@@ -95,17 +96,18 @@ abbrev pub ifGood : Verdict → LookupAnswer → LookupAnswer
 ifGood good a = a
 ifGood (bad n) a = lookup.Refused (refusal 23 n)
 
--- 23 first
+-- look-up (docs/DECISIONS.md, F16): 23 first, its place the number of the record; then the offset, or 16 at 0. The offset before record 0 is not looked at
 abbrev pub lookupIn : Book → ℕ → ℕ → LookupAnswer
 lookupIn b track field = ifGood (judge 0 0 (b .entries) (b .whole)) (orNotThere (firstIn track field (b .entries)))
 
 unfoldable pub lookupOf : List ℕ → ℕ → ℕ → LookupAnswer
 lookupOf s track field = lookupIn (bookOf s) track field
 
--- how one pass judges: the first four bytes as one word, and from record n on
+-- for the code alone: the first four bytes of a record as one word, least significant first
 unfoldable pub soundHead : ℕ → Bool
 soundHead h = pick (eqb (h % 0x10000) 0x5847) (pick (ltb 63 (h / 0x10000 % 0x100)) false (knownType (h / 0x1000000))) false
 
+-- and a book from record n on, where 16 times n is no more than its length
 abbrev pub bookAt : List ℕ → ℕ → Book
 bookAt s n = bookFrom s (suc (length s)) (n * 16)
 

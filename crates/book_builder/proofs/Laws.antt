@@ -91,7 +91,7 @@ begin s a =
       types = replicate 64 0;
       enough = omega arith;
       same = refl;
-      passes = λ _. record { progress = started; packets = a .packets; judged = a .passes };
+      passes = λ _. record { progress = started; packets = a .count; judged = a .passes };
     }
 
 module _ (s : List ℕ) (at : ℕ) (done : List Entry) (l : Left s at done) where

@@ -34,6 +34,7 @@ unfoldable pub entriesOf : List Placed → List Entry
 entriesOf [] = []
 entriesOf (x ∷ xs) = entriesHere (x .at) (x .piece) ++ entriesOf xs
 
+-- of a stream that the check refuses, those before the fault; no answer shows them
 unfoldable pub entriesIn : List ℕ → List Entry
 entriesIn s = entriesOf (packets s .list)
 
@@ -45,7 +46,7 @@ inRoom room n (check.Packets k) = pick (ltb room (16 * n)) (build.Refused (refus
 unfoldable pub buildAnswer : List ℕ → List ℕ → BuildAnswer
 buildAnswer l s = inRoom (length l) (length (entriesIn s)) (checkOf s)
 
--- the records at the buffer's start, where they are written; all else stays
+-- the records at the buffer's start, if there was no refusal; all else stays
 abbrev pub written : List ℕ → List ℕ → BuildAnswer → List ℕ
 written l bytes (build.Refused r) = l
 written l bytes (build.Records n) = bytes ++ drop (length bytes) l
@@ -53,15 +54,17 @@ written l bytes (build.Records n) = bytes ++ drop (length bytes) l
 unfoldable pub builtIn : List ℕ → List ℕ → List ℕ
 builtIn l s = written l (bytesOf (entriesIn s)) (buildAnswer l s)
 
--- how the walks behind the check read: the check passes the stream, so that each packet is what its bytes say
+-- for the code alone: how it walks over the packets of a stream that the check has passed
 pub record Accepted (s : List ℕ) : Type 0 where
-  pub packets : ℕ
-  pub passes : checkOf s ≡ check.Packets packets
+  pub count : ℕ
+  pub passes : checkOf s ≡ check.Packets count
 
+-- at the offset of such a packet: it has a header (clause 6: not 1), and a media packet has a preamble (Table 21: not 8)
 pub record Seeable (s : List ℕ) (at : ℕ) : Type 0 where
   pub header : at + 16 ≤ length s
   pub preamble : getD s (at + 5) 0 ≡ 0xBF → at + 32 ≤ length s
 
+-- what its bytes say: type and length of clause 6, and of a media packet media type, ID and field number of Table 21
 unfoldable pub seenAt : List ℕ → ℕ → Piece
 seenAt s at =
     pick (eqb (getD s (at + 5) 0) 0xBF)

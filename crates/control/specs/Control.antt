@@ -14,11 +14,12 @@ unfoldable pub headerForC : PacketAnswer → GxfPacket
 headerForC (packet.Whole p) = record { number = 0; place = 0; kind = p .kind; len = p .len }
 headerForC (packet.Refused r) = record { number = r .number; place = r .place; kind = 0; len = 0 }
 
--- a byte's offset in the stream
+-- an offset in the stream, of a byte that need not begin a packet (clause 7.2.2)
 unfoldable pub positionForC : PositionAnswer → GxfValue
 positionForC (position.At o) = answeredForC o
 positionForC (position.Refused r) = refusedForC r
 
+-- the offset of a packet
 unfoldable pub seekForC : SeekAnswer → GxfValue
 seekForC (seek.At o) = answeredForC o
 seekForC (seek.Refused r) = refusedForC r

@@ -12,10 +12,10 @@ use Rattle.lent_records.specs.declared.After.{After}
 abbrev pub after : MapAnswer → List Track → After
 after a zs = record { answer = a; records = zs }
 
--- the answer for n records, and all records: those that were lent as the call leaves them, then the others as they were
+-- n is at most the number of records: the answer for n, and all records: those that were lent as the call leaves them, then the others as they were
 unfoldable pub afterFill : List Track → ℕ → List ℕ → ℕ → After
 afterFill xs n s at = after (answerFor s at n) (lentAfter (recordsAt s at) (take n xs) (answerFor s at n) ++ drop n xs)
 
--- of 80 records, how many are lent where n are asked for
+-- of 80 records, how many are lent where n are asked for; more never shows in an answer, as a map lists 64 tracks at most
 unfoldable pub lentOf : ℕ → ℕ
 lentOf n = pick (ltb n 80) n 80

@@ -1,4 +1,4 @@
--- What C sees of the answer whose instructions are counted (docs/DECISIONS.md, S24): all of it, so that no compiler can leave out a part.
+-- What C sees of the answer whose instructions are counted (docs/DECISIONS.md, S24): count and material, so that no compiler can leave out a part.
 use Prim.Native.Nat.{ℕ}
 use Rattle.plate.specs.declared.Refusal.{Refusal}
 use Rattle.items.specs.declared.Part.{Part}

@@ -15,7 +15,7 @@ enum-told : tie.Need-enum-told
 enum-told c = search needs
 
 count-requires : tie.Need-count-requires
-count-requires c κs = record { packets = _; passes = sym (c .before .before .check .ensures) ∙ c .enum-told .given .1 }
+count-requires c κs = record { count = _; passes = sym (c .before .before .check .ensures) ∙ c .enum-told .given .1 }
 
 refuse-requires : tie.Need-refuse-requires
 refuse-requires c κs = search needs
@@ -26,7 +26,7 @@ returns c =
 
 write-requires : tie.Need-write-requires
 write-requires c κs =
-    (record { packets = _; passes = sym (c .before .before .before .before .before .check .ensures) ∙ c .before .before .before .enum-told .given .1 }, omega (arith, c .before .before .count .ensures))
+    (record { count = _; passes = sym (c .before .before .before .before .before .check .ensures) ∙ c .before .before .before .enum-told .given .1 }, omega (arith, c .before .before .count .ensures))
 
 returns-2 : tie.Need-returns-2
 returns-2 c = build-refused _ _ _ (sym (c .before .before .before .check .ensures) ∙ c .before .r .given .1)
