@@ -62,7 +62,7 @@ fn offset_at(book: &[u8], at: usize) -> usize
     requires { ⌜ at + 16 ≤ length (now book) ⌝ }
     ensures { λ r. ⌜ r ≡ le (now (book .entry)) (at + 8) 8 ⌝ }
 {
-    number::le_at(book, at + 8, 8)
+    number::le8(book, at + 8)
 }
 
 // An answer, if no broken tail follows the n records.

@@ -83,6 +83,26 @@ le-four s at a b c d p q r t =
     let f : at + 2 + 1 ≡ at + 3 = omega arith in
     rw e (rw f (omega arith))
 
+pub le-eight : (s : List ℕ) (at : ℕ)
+    → getD s at 0
+    + getD s (at + 1) 0 * 0x100
+    + getD s (at + 2) 0 * 0x10000
+    + getD s (at + 3) 0 * 0x1000000
+    + getD s (at + 4) 0 * 0x100000000
+    + getD s (at + 5) 0 * 0x10000000000
+    + getD s (at + 6) 0 * 0x1000000000000
+    + getD s (at + 7) 0 * 0x100000000000000
+    ≡ le s at 8
+unfolding le
+le-eight s at =
+    let b : at + 1 + 1 ≡ at + 2 = omega arith in
+    let c : at + 2 + 1 ≡ at + 3 = omega arith in
+    let d : at + 3 + 1 ≡ at + 4 = omega arith in
+    let e : at + 4 + 1 ≡ at + 5 = omega arith in
+    let f : at + 5 + 1 ≡ at + 6 = omega arith in
+    let g : at + 6 + 1 ≡ at + 7 = omega arith in
+    rw b (rw c (rw d (rw e (rw f (rw g (omega arith))))))
+
 pub be-four : (s : List ℕ) (at a b c d : ℕ) → a ≡ getD s at 0 → b ≡ getD s (at + 1) 0 → c ≡ getD s (at + 2) 0 → d ≡ getD s (at + 3) 0
     → ((a * 0x100 + b) * 0x100 + c) * 0x100 + d ≡ be s at 4
 unfolding be

@@ -58,6 +58,10 @@ first-assoc (spot.At o) b at later = refl
 first-assoc spot.Nothing true at later = refl
 first-assoc spot.Nothing false at later = refl
 
+pub first-alone : (found : Spot) → orFirst found spot.Nothing ≡ found
+first-alone (spot.At o) = refl
+first-alone spot.Nothing = refl
+
 module _ (s : List ℕ) (track field at : ℕ) (p : Progress) (types : List ℕ) (found : Spot) (l : Left s track field at p types found) where
   pub on-out : length s ≤ at → run.Refused (ranOut (p .count) (length s)) ≡ runOf s track field
   unfolding judge

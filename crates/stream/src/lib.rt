@@ -59,15 +59,17 @@ fn carries(x: Piece, track: u64, field: u64) -> bool
 fn first_with(first: Spot, x: Piece, at: usize, track: u64, field: u64) -> Spot
     ensures { λ r. ⌜ r ≡ orFirst first (firstHere track field x at) ⌝ }
 {
-    match first {
-        Spot::At(o) => Spot::At(o),
-        Spot::Nothing => {
-            if carries(x, track, field) {
+    if carries(x, track, field) {
+        match first {
+            Spot::At(o) => {
+                return Spot::At(o);
+            }
+            Spot::Nothing => {
                 return Spot::At(at);
             }
-            Spot::Nothing
         }
     }
+    first
 }
 
 // Bytes have run out: 17 at the start, 18 later.
