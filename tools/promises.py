@@ -51,7 +51,7 @@ def edits():
 
 def listed():
     # the edits that change a definition, as the last section lists them: "CRATE EDIT, EDIT; CRATE EDIT"
-    text = section("About the edits").split("from the other side: ", 1)[1].split(". ", 1)[0]
+    text = re.split(r"\.\s", section("About the edits").split("from the other side:", 1)[1], maxsplit=1)[0]
     return {f"{part.split()[0]}/{name.strip()}" for part in text.split(";") for name in part.split(None, 1)[1].split(",")}
 
 

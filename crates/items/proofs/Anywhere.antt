@@ -14,6 +14,10 @@ use Rattle.items.specs.declared.Verdict.{Verdict}
 use Rattle.items.specs.declared.Verdict.the-variants.{Accepted, Refused}
 use Rattle.items.proofs.Split.{section-bytes}
 
+-- no test is both
+pub never : {X : Type 0} → true ≡ false → X
+never e = absurd (let z : _≡_ {A = ℕ} 0 1 = cc in omega arith)
+
 -- a fault is no acceptance
 pub not-accepted : {X : Type 0} (n p : ℕ) → bad n p ≡ Accepted → X
 not-accepted n p e = absurd (let z : _≡_ {A = ℕ} 0 1 = cc in omega arith)

@@ -4,6 +4,7 @@
 use packet::PacketAnswer;
 use plate::Refusal;
 ghost use mathlib.Core.Path.{_≡_};
+ghost use Rattle.packet.specs.Packet.{packetAt};
 ghost use Rattle.locator.specs.Locator.{tableOf, tableAt, positionOf, positionAt};
 
 // Fields per entry, and the number of entries.
@@ -44,11 +45,18 @@ pub fn table(p: &[u8]) -> LocatorAnswer
     LocatorAnswer::Table(Locator { step, count })
 }
 
+// The FLT packet at a position: refusals 1 to 6.
+fn flt_at(s: &[u8], at: usize) -> PacketAnswer
+    ensures { λ r. ⌜ r ≡ packetAt (now (s .entry)) at 0xFC ⌝ }
+{
+    packet::of_type(s, at, packet::FLT)
+}
+
 // The table of the packet at a position: refusals 1 to 6 first.
 pub fn read(s: &[u8], at: usize) -> LocatorAnswer
     ensures { λ r. ⌜ r ≡ tableAt (now (s .entry)) at ⌝ }
 {
-    match packet::of_type(s, at, packet::FLT) {
+    match flt_at(s, at) {
         PacketAnswer::Refused(r) => LocatorAnswer::Refused(r),
         PacketAnswer::Whole(p) => {
             let len = p.len;
@@ -81,7 +89,7 @@ pub fn position_in(p: &[u8], distance: u64) -> PositionAnswer
 pub fn position(s: &[u8], at: usize, distance: u64) -> PositionAnswer
     ensures { λ r. ⌜ r ≡ positionAt (now (s .entry)) at distance ⌝ }
 {
-    match packet::of_type(s, at, packet::FLT) {
+    match flt_at(s, at) {
         PacketAnswer::Refused(r) => PositionAnswer::Refused(r),
         PacketAnswer::Whole(p) => {
             let len = p.len;

@@ -14,6 +14,7 @@ use Rattle.number.specs.Number.{be, beBytes}
 use Rattle.number.proofs.Laws.{be-back, length-beBytes}
 use Rattle.items.specs.Find.{Found, missing, found, find, partOf}
 use Rattle.items.specs.Judge.{has}
+use Rattle.items.proofs.Anywhere.{never}
 use Rattle.media_type.specs.MediaType.{knownType}
 use Rattle.answer.specs.Answer as answer
 use Rattle.answer.specs.Answer.{allowed, codeOf, isNull}
@@ -222,15 +223,12 @@ hidden-none : (ss : List Slot) → barred ss ≡ false → nullName ss ≡ true 
 unfolding barred
 hidden-none ss = go (nullName ss) (given 0x4D ss) (given 0x4E ss) (given 0x4F ss)
   where
-    no : {X : Type 0} → true ≡ false → X
-    no e = absurd (let y : _≡_ {A = ℕ} 0 1 = cc in omega arith)
-
     go : (n a b c : Bool) → pick n (pick a true (pick b true c)) false ≡ false → n ≡ true → (a ≡ false) × (b ≡ false) × (c ≡ false)
-    go true true b c e f = no e
-    go true false true c e f = no e
-    go true false false true e f = no e
+    go true true b c e f = never e
+    go true false true c e f = never e
+    go true false false true e f = never e
     go true false false false e f = (refl, refl, refl)
-    go false a b c e f = no (sym f)
+    go false a b c e f = never (sym f)
 
 -- a track: each slot by its tag
 module _ (text ts : List ℕ) (at : ℕ) (own : ownFault (trackAt ts at) ≡ 0) (h : slotsFault text (trackAt ts at .slots) ≡ 0) where

@@ -33,7 +33,7 @@ use Rattle.bench.proofs.Table.{headed, upToRate, M, newer, reserved, saying}
 use Rattle.newer.specs.Strike as strike
 use Rattle.newer.specs.Strike.{inTrack, setIn}
 use Rattle.newer.specs.Demand.{Accepted, Alike, There, Unknown, Room}
-use Rattle.newer.proofs.Items.{never}
+use Rattle.items.proofs.Anywhere.{never}
 use Rattle.map.specs.declared.MapAnswer.{MapAnswer}
 use Rattle.map.specs.declared.MapAnswer.the-variants as map-answer
 use Rattle.map.specs.declared.TrackAnswer.{TrackAnswer}

@@ -17,16 +17,12 @@ use Rattle.items.specs.declared.Section.the-variants as section
 use Rattle.items.specs.declared.Form.{Form}
 use Rattle.items.specs.declared.Form.the-variants as form
 use Rattle.items.specs.declared.Verdict.the-variants.{Accepted}
-use Rattle.items.proofs.Anywhere.{not-accepted, item-anywhere, judge-anywhere}
+use Rattle.items.proofs.Anywhere.{never, not-accepted, item-anywhere, judge-anywhere}
 use Rattle.answer.specs.Answer.{valueOf, codeOf}
 use Rattle.answer.specs.declared.Code.{Code}
 use Rattle.answer.specs.declared.Code.the-variants as code
 use Rattle.map.specs.Said.{heldOf}
 use Rattle.newer.specs.Strike.{kept, isReserved, trackStays, setAt}
-
--- no number is both
-pub never : {X : Type 0} → true ≡ false → X
-never e = absurd (let z : _≡_ {A = ℕ} 0 1 = cc in omega arith)
 
 -- keeping twice is keeping once; what is set in and does not stay is not kept
 pub kept-again : {A : Type 0} (stays : A → Bool) (xs : List A) → kept stays (kept stays xs) ≡ kept stays xs
