@@ -1,17 +1,7 @@
 use Rattle.probe.proofs.line.bits_of.Statement.{statement}
 use Rattle.probe.proofs.line.bits_of.Tie as tie
 use borrow.Author.Needs.{needs}
-use mathlib.Core.Path.{_≡_, sym, subst}
-use mathlib.Core.Bool.{true, not}
-use lib.Dec.{T}
-use lib.Ieee.{Float, nan, inf, fin, eq, isNan}
-
--- what equals itself is a number
-no-nan : (x : Float) → eq x x ≡ true → T (not (isNan x))
-unfolding eq isNan
-no-nan nan h = subst T (sym h) tt
-no-nan (inf s) h = tt
-no-nan (fin s m e) h = tt
+use Rattle.parameter.proofs.Laws.{no-nan}
 
 float-to-bits-n : tie.Need-float-to-bits-n
 float-to-bits-n c = no-nan _ (c .if1 .taken)
