@@ -6,6 +6,9 @@ ghost use Rattle.media_type.specs.MediaType.{knownType};
 pub fn is_known(kind: u8) -> bool
     ensures { λ r. ⌜ r ≡ knownType kind ⌝ }
 {
+    if 20 <= kind {
+        return kind <= 26;
+    }
     if kind < 3 {
         return false;
     }
@@ -15,11 +18,5 @@ pub fn is_known(kind: u8) -> bool
     if kind < 7 {
         return false;
     }
-    if kind <= 18 {
-        return true;
-    }
-    if kind < 20 {
-        return false;
-    }
-    kind <= 26
+    kind <= 18
 }
