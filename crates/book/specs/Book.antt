@@ -103,7 +103,7 @@ lookupIn b track field = ifGood (judge 0 0 (b .entries) (b .whole)) (orNotThere 
 unfoldable pub lookupOf : List ℕ → ℕ → ℕ → LookupAnswer
 lookupOf s track field = lookupIn (bookOf s) track field
 
--- for the code alone: the first four bytes of a record as one word, least significant first
+-- for the code alone: the first four bytes of a record, as one word, least significant first, are the marks, an ID up to 63 and a known type
 unfoldable pub soundHead : ℕ → Bool
 soundHead h = pick (eqb (h % 0x10000) 0x5847) (pick (ltb 63 (h / 0x10000 % 0x100)) false (knownType (h / 0x1000000))) false
 

@@ -34,7 +34,7 @@ unfoldable pub entriesOf : List Placed → List Entry
 entriesOf [] = []
 entriesOf (x ∷ xs) = entriesHere (x .at) (x .piece) ++ entriesOf xs
 
--- of a stream that the check refuses, those before the fault; no answer shows them
+-- of a stream that the check refuses, those of the packets that its bytes give, which no answer shows
 unfoldable pub entriesIn : List ℕ → List Entry
 entriesIn s = entriesOf (packets s .list)
 

@@ -33,6 +33,7 @@ fn spell(out: &mut [u8], at: usize, bytes: &[u8], in_hex: bool) -> usize {
     k
 }
 
+// A text as it is.
 pub fn say(out: &mut [u8], at: usize, text: &[u8]) -> usize {
     spell(out, at, text, false)
 }

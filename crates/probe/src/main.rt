@@ -1,4 +1,5 @@
 // Answers requests on standard input, a line each, until the input ends or a request is malformed: docs/PROBE.md.
+// The functions of its modules serve this program alone: they are proved safe and to end, and what they print is compared.
 mod line;
 mod read;
 mod records;
