@@ -28,6 +28,7 @@ class Function:
     result: list  # the type's tokens; none for ()
     requires: list  # the clauses' tokens
     ensures: list
+    names: dict = None  # what an imported name of a clause stands for
 
     def changed(self):
         # the parameters that it may write to
@@ -133,7 +134,10 @@ def functions_of(crate_folder):
     for path in files_below(src, ".rt"):
         module = os.path.relpath(path, src)[:-3].split(os.sep)
         within = [m for m in module if m not in ("lib", "mod")]
-        found += public_functions(tokens_of(read(path)), within)
+        text = read(path)
+        for f in public_functions(tokens_of(text), within):
+            f.names = imports_of(text)
+            found.append(f)
     return found
 
 
@@ -151,11 +155,11 @@ def antt_tokens(text):
 
 
 def imports_of(text):
-    # what a name of the file stands for
+    # what a name of the file stands for; also of .rt, for its clauses
     names = {}
-    for path, name in re.findall(r"^use (\S+) as (\S+)\s*$", text, re.M):
+    for path, name in re.findall(r"^(?:ghost )?use (\S+) as ([^\s;]+)", text, re.M):
         names[name] = path
-    for path, listed in re.findall(r"^use (\S+)\.\{([^}]*)\}", text, re.M):
+    for path, listed in re.findall(r"^(?:ghost )?use (\S+)\.\{([^}]*)\}", text, re.M):
         for name in listed.split(","):
             names[name.strip()] = f"{path}.{name.strip()}"
     return names
@@ -288,11 +292,11 @@ def arguments_of(f, contract):
 def is_over_name(crate, f, contract, statement):
     # "(..) → Contract in.. out.. → Contract in.. out'.. → out ≡ out', each"
     inputs, all_of_them = arguments_of(f, contract)
-    text = " ".join(statement)
-    held = re.fullmatch(rf"(.*?\)) → (Rattle\.{crate}\.specs\.(?:\w+\.)*{contract}) ([^→]*) → \2 ([^→]*) → ([^→]*)", text)
-    if held is None:
+    own = f.names.get(contract, "")
+    held = re.fullmatch(rf"(.*?\)) → {re.escape(own)} ([^→]*) → {re.escape(own)} ([^→]*) → ([^→]*)", " ".join(statement))
+    if held is None or not own.startswith(f"Rattle.{crate}.specs."):
         return False
-    given, one, two, equal = held.group(1), held.group(3).split(), held.group(4).split(), held.group(5)
+    given, one, two, equal = held.group(1), held.group(2).split(), held.group(3).split(), held.group(4)
     bound = [name for group in re.findall(r"\( ([^:()]*) :", given) for name in group.split()]
     names = one + two[inputs:]
     pairs = list(zip(one, two))[inputs:]

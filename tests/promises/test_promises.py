@@ -66,7 +66,9 @@ pub part-once : (κs : Lfts 1) (a : Dens κs part-kinds.ps) (x y : resT part-kin
 part-once κs a x y s t p q = (p .0 ∙ sym (q .0), p .1 ∙ sym (q .1))
 """
 
-WALKER = """pub struct Walker<'a> {
+WALKER = """ghost use Rattle.walker.specs.Walk.{Made, Stepped};
+
+pub struct Walker<'a> {
     pub stream: &'a [u8],
     pub at: usize,
 }
@@ -269,7 +271,9 @@ class Promises(unittest.TestCase):
 
     def test_by_hand_over_another_name(self):
         self.of_walker("proofs/Once.antt", "→ Stepped w r u →", "→ Made w r u →", "walker::step: step-once does not say")
-        self.of_walker("proofs/Once.antt", "use Rattle.walker.specs.Walk.{Stepped}", "use Rattle.a.specs.Walk.{Stepped}", "walker::step: step-once does not say")
+        for name, path in (("proofs/Once.antt", "Walk.{Stepped}"), ("src/lib.rt", "Walk.{Made, Stepped}")):
+            self.of_walker(name, f"Rattle.walker.specs.{path}", f"Rattle.walker.specs.Weak{path}", "walker::step: step-once does not say")
+            self.of_walker(name, f"Rattle.walker.specs.{path}", f"Rattle.a.specs.{path}", "walker::step: step-once does not say")
 
     def test_by_hand_too_weak(self):
         self.of_walker("proofs/Once.antt", "(r ≡ t) × (u ≡ v)", "r ≡ t", "walker::step: step-once does not say")
