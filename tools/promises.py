@@ -219,8 +219,7 @@ def page_of(text):
     about, defining = section("About the edits"), set()
     if "from the other side:" in about:  # "CRATE EDIT, EDIT; CRATE EDIT" up to the full stop
         listed = re.split(r"\.\s", about.split("from the other side:", 1)[1], maxsplit=1)[0]
-        for part in listed.split(";"):
-            crate, edits = part.split(None, 1)
+        for crate, edits in re.findall(r"(\w+)\s+([^;]+)", listed):
             defining |= edits_in(edits, crate)
     for crate, paragraph in re.findall(r"the edits are in `(\w+)`(.*?)(?:\n\n|\Z)", about, re.S):
         for group in re.findall(r"\(([\w\s,]+)\)", paragraph):  # "(EDIT, EDIT)", or of another crate "(CRATE EDIT, EDIT)"
@@ -289,11 +288,14 @@ def arguments_of(f, contract):
     return (len(entries), len(asked)) if whole else None
 
 
+BINDER = r"\( [^(){}:→]+ : (?:[^(){}→]|\( [^(){}→]* \))+ \) "
+
+
 def is_over_name(crate, f, contract, statement):
-    # "(..) → Contract in.. out.. → Contract in.. out'.. → out ≡ out', each"
+    # "(names : type).. → Contract in.. out.. → Contract in.. out'.. → out ≡ out', each", with these names and no others
     inputs, all_of_them = arguments_of(f, contract)
     own = f.names.get(contract, "")
-    held = re.fullmatch(rf"(.*?\)) → {re.escape(own)} ([^→]*) → {re.escape(own)} ([^→]*) → ([^→]*)", " ".join(statement))
+    held = re.fullmatch(rf"((?:{BINDER})+)→ {re.escape(own)} ([^→]*) → {re.escape(own)} ([^→]*) → ([^→]*)", " ".join(statement))
     if held is None or not own.startswith(f"Rattle.{crate}.specs."):
         return False
     given, one, two, equal = held.group(1), held.group(2).split(), held.group(3).split(), held.group(4)

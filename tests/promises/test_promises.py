@@ -2,6 +2,7 @@
 # tools/promises.py on small trees: a good one, and one for each fault that it is to find.
 import contextlib, importlib.util, os, subprocess, sys, tempfile, unittest
 
+sys.dont_write_bytecode = True  # nothing is left beside the script
 SCRIPT = os.path.join(os.path.dirname(os.path.abspath(__file__)), "..", "..", "tools", "promises.py")
 spec = importlib.util.spec_from_file_location("promises", SCRIPT)
 promises = importlib.util.module_from_spec(spec)
@@ -279,6 +280,8 @@ class Promises(unittest.TestCase):
         self.of_walker("proofs/Once.antt", "(r ≡ t) × (u ≡ v)", "r ≡ t", "walker::step: step-once does not say")
         self.of_walker("proofs/Once.antt", "(r ≡ t) × (u ≡ v)", "(r ≡ t) × (u ≡ u)", "walker::step: step-once does not say")
         self.of_walker("proofs/Once.antt", "→ Stepped w t v →", "→ Stepped w t v → Never →", "walker::step: step-once does not say")
+        for premise in ("(p : Never) ", "{p : Never} ", "{{p : Never}} ", "⦃p : Never⦄ ", "(w : Walker) → (Never) → ", "(w : Walker) → Never → "):
+            self.of_walker("proofs/Once.antt", "step-once : (w", f"step-once : {premise}(w", "walker::step: step-once does not say")
         self.of_walker("proofs/Once.antt", "→ Stepped w t v → (r ≡ t) × (u ≡ v)", "→ Stepped w r u → (r ≡ r) × (u ≡ u)", "walker::step: step-once does not say")
 
     # ---- the page ----
