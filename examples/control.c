@@ -67,14 +67,20 @@ static int say(const char *what, struct gxf_offset o)
     return 0;
 }
 
-/* A number that fills its argument; no sign and nothing behind it. */
+/* A number that is its whole argument: digits alone, one at least, and no more than 64 bits hold. Says so of one that is not. */
 static int number_of(const char *text, uint64_t *n)
 {
-    char *end;
-    if (text[0] < '0' || text[0] > '9')
-        return 0;
-    *n = strtoull(text, &end, 10);
-    return *end == '\0';
+    const char *c = text;
+    *n = 0;
+    do {
+        uint64_t digit = (uint64_t)*c - '0';
+        if (*c < '0' || *c > '9' || *n > (UINT64_MAX - digit) / 10) {
+            fprintf(stderr, "control: no number of 64 bits: \"%s\"\n", text);
+            return 0;
+        }
+        *n = 10 * *n + digit;
+    } while (*++c != '\0');
+    return 1;
 }
 
 int main(int argc, char **argv)

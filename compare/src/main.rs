@@ -1,9 +1,10 @@
 //! The driver: makes cases, asks the probe, compares line by line. docs/PROBE.md says how to run it.
 
-use compare::generate::{case, Case};
+use compare::generate::{case, large, Case};
 use compare::own;
 use compare::reference::listing::listing;
 use compare::request::{answer, hex, Request, CHECK, MOST_BYTES, SHAPES};
+use compare::rng::Rng;
 use std::collections::BTreeMap;
 use std::fs::File;
 use std::io::{self, BufRead, BufReader, BufWriter, Read, Write};
@@ -11,7 +12,7 @@ use std::process::{Command, ExitCode, Stdio};
 use std::thread;
 
 const USAGE: &str = "\
-compare --cases N --seed S --probe PATH [--probe-arg A]... [--batch B]
+compare --cases N --seed S --probe PATH [--probe-arg A]... [--listing PATH [--probe-arg A]...] [--batch B]
 compare --cases N --seed S --requests FILE --expected FILE
 compare --listing PATH [--probe-arg A]... [--cases N] [--seed S]
 compare --self [--cases N] [--seed S]
@@ -20,13 +21,25 @@ compare --show I --seed S";
 /// So many differences are shown.
 const SHOWN: u64 = 5;
 
+/// A program that is held against the second implementation, with the words that it is given.
+struct Program {
+    path: String,
+    args: Vec<String>,
+}
+
+impl Program {
+    fn new(path: String) -> Self {
+        let args = Vec::new();
+        Program { path, args }
+    }
+}
+
 struct Options {
     cases: u64,
     seed: u64,
     batch: u64,
-    probe: Option<String>,
-    listing: Option<String>,
-    probe_args: Vec<String>,
+    probe: Option<Program>,
+    listing: Option<Program>,
     requests: Option<String>,
     expected: Option<String>,
     own: bool,
@@ -40,12 +53,12 @@ fn options() -> Result<Options, String> {
         batch: 10_000,
         probe: None,
         listing: None,
-        probe_args: Vec::new(),
         requests: None,
         expected: None,
         own: false,
         show: None,
     };
+    let mut listing_named_last = false;
     let mut args = std::env::args().skip(1);
     while let Some(arg) = args.next() {
         let mut value = || args.next().ok_or(format!("{arg} wants a value"));
@@ -57,9 +70,23 @@ fn options() -> Result<Options, String> {
             "--cases" => o.cases = number(value()?)?,
             "--seed" => o.seed = number(value()?)?,
             "--batch" => o.batch = number(value()?)?.max(1),
-            "--probe" => o.probe = Some(value()?),
-            "--listing" => o.listing = Some(value()?),
-            "--probe-arg" => o.probe_args.push(value()?),
+            "--probe" => {
+                o.probe = Some(Program::new(value()?));
+                listing_named_last = false;
+            }
+            "--listing" => {
+                o.listing = Some(Program::new(value()?));
+                listing_named_last = true;
+            }
+            "--probe-arg" => {
+                let named = if listing_named_last {
+                    &mut o.listing
+                } else {
+                    &mut o.probe
+                };
+                let named = named.as_mut().ok_or("--probe-arg before its program")?;
+                named.args.push(value()?);
+            }
             "--requests" => o.requests = Some(value()?),
             "--expected" => o.expected = Some(value()?),
             "--self" => o.own = true,
@@ -166,9 +193,9 @@ fn made(seed: u64, index: u64) -> (Case, String) {
 }
 
 /// Runs a program on some input and gives its lines; a thread feeds it, so that neither side waits for the other.
-fn ask(o: &Options, path: &str, input: Vec<u8>) -> io::Result<Vec<String>> {
-    let mut child = Command::new(path)
-        .args(&o.probe_args)
+fn ask(program: &Program, input: Vec<u8>) -> io::Result<Vec<String>> {
+    let mut child = Command::new(&program.path)
+        .args(&program.args)
         .stdin(Stdio::piped())
         .stdout(Stdio::piped())
         .spawn()?;
@@ -262,7 +289,7 @@ fn malformed_runs() -> Vec<(&'static str, Vec<u8>)> {
         .collect()
 }
 
-fn compare(o: &Options, probe: &str) -> io::Result<bool> {
+fn compare(o: &Options, probe: &Program) -> io::Result<bool> {
     let mut table = Table::default();
     let mut differences = 0;
     let mut from = 0;
@@ -276,7 +303,7 @@ fn compare(o: &Options, probe: &str) -> io::Result<bool> {
             table.count(case.kind, &line);
             wanted.push(line + "\n");
         }
-        let lines = ask(o, probe, input)?;
+        let lines = ask(probe, input)?;
         for (i, want) in wanted.iter().enumerate() {
             if lines.get(i) != Some(want) {
                 differences += 1;
@@ -297,7 +324,7 @@ fn compare(o: &Options, probe: &str) -> io::Result<bool> {
     let runs = malformed_runs();
     let mut wrong = 0;
     for (what, input) in &runs {
-        let lines = ask(o, probe, input.clone())?;
+        let lines = ask(probe, input.clone())?;
         if lines != ["refused 2 0\n", "malformed\n"] {
             differences += 1;
             wrong += 1;
@@ -311,6 +338,9 @@ fn compare(o: &Options, probe: &str) -> io::Result<bool> {
         "runs with a malformed request: {}, {wrong} differ",
         runs.len()
     );
+    if let Some(listing) = &o.listing {
+        differences += compare_listing(o.seed, (o.cases / 100).clamp(100, 1_000), listing)?;
+    }
     println!(
         "cases: {}, seed: {}, differences: {differences}",
         o.cases, o.seed
@@ -318,33 +348,55 @@ fn compare(o: &Options, probe: &str) -> io::Result<bool> {
     Ok(differences == 0)
 }
 
-/// The listing program on the streams of the cases that ask for a check, and on inputs at its limit; one run each.
-fn compare_listing(o: &Options, path: &str) -> io::Result<bool> {
-    let mut inputs: Vec<Vec<u8>> = vec![vec![], vec![0; 65_536], vec![0; 65_537], vec![0; 70_000]];
-    let cases = (0..).map(|index| case(o.seed, index).request);
-    let streams = cases.filter(|request| request.function == CHECK);
+/// Inputs of the listing program: none, at its limit of 65,536 bytes and over it, and so many streams of the cases that ask for a check.
+fn listing_inputs(seed: u64, streams: u64) -> Vec<Vec<u8>> {
+    let mut rng = Rng::new(seed, 0);
+    let most = MOST_BYTES as usize;
+    let mut inputs = vec![vec![]];
+    for n in [most, most + 1, 70_000, 1_000_000] {
+        inputs.push(vec![0; n]); // no stream at all
+    }
+    for n in [most, most + 4, most + 16, most + 1_000] {
+        inputs.push(large::stream_of(&mut rng, n)); // good but for its size
+    }
+    let whole = large::stream_of(&mut rng, most);
+    inputs.push([&whole[..], &[0]].concat()); // one byte too long, and behind the EOS
+    inputs.push([&[0], &whole[..]].concat());
+    inputs.push(whole[..most - 1].to_vec());
+    let cases = (0..).map(|index| case(seed, index).request);
+    let asked = cases.filter(|request| request.function == CHECK);
     inputs.extend(
-        streams
-            .take(o.cases as usize)
+        asked
+            .take(streams as usize)
             .map(|request| request.strings[0].clone()),
     );
-    let mut accepted = 0;
-    let mut differences = 0;
+    inputs
+}
+
+/// The listing program on these, one run each; how many differ.
+fn compare_listing(seed: u64, streams: u64, program: &Program) -> io::Result<u64> {
+    let (mut accepted, mut empty, mut too_long, mut differences) = (0, 0, 0, 0);
+    let inputs = listing_inputs(seed, streams);
     for input in &inputs {
         let want = listing(input);
         accepted += u64::from(!want.starts_with("refused"));
-        let got = ask(o, path, input.clone())?.concat();
+        empty += u64::from(input.is_empty());
+        too_long += u64::from(input.len() as u64 > MOST_BYTES);
+        let got = ask(program, input.clone())?.concat();
         if got != want {
             differences += 1;
             if differences <= SHOWN {
-                println!("difference: input {}", hex(input));
+                println!("difference: listing of {}", around(&hex(input), 0));
                 println!("  expected {want:?}\n  listing  {got:?}");
             }
         }
     }
-    let n = inputs.len();
-    println!("listings: {n}, accepted: {accepted}, differences: {differences}");
-    Ok(differences == 0)
+    let n = inputs.len() as u64;
+    println!(
+        "runs of the listing: {n}, accepted {accepted}, refused {} (too long {too_long}, empty {empty}), {differences} differ",
+        n - accepted
+    );
+    Ok(differences)
 }
 
 /// Requests and expected lines as two files.
@@ -391,12 +443,12 @@ fn run(o: &Options) -> io::Result<bool> {
     if o.own {
         return Ok(own_check(o));
     }
-    if let Some(path) = &o.listing {
-        return compare_listing(o, path);
-    }
-    match (&o.probe, &o.requests, &o.expected) {
-        (Some(probe), None, None) => compare(o, probe),
-        (None, Some(requests), Some(expected)) => to_files(o, requests, expected).map(|()| true),
+    match (&o.probe, &o.listing, &o.requests, &o.expected) {
+        (Some(probe), _, None, None) => compare(o, probe),
+        (None, Some(listing), None, None) => Ok(compare_listing(o.seed, o.cases, listing)? == 0),
+        (None, None, Some(requests), Some(expected)) => {
+            to_files(o, requests, expected).map(|()| true)
+        }
         _ => {
             eprintln!("{USAGE}");
             Ok(false)

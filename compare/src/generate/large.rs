@@ -49,13 +49,17 @@ fn map(rng: &mut Rng) -> Made {
     (request, Some(model.line(n)))
 }
 
-/// A stream of 65,536 bytes whose last packets lie far behind.
 fn stream(rng: &mut Rng) -> Vec<u8> {
+    stream_of(rng, MOST)
+}
+
+/// A stream of so many bytes, some 65,536, whose last packets lie far behind.
+pub fn stream_of(rng: &mut Rng, most: usize) -> Vec<u8> {
     let media = |data: usize| packet(0xBF, &media_payload(10, 1, 7, [0, 0], 1, &vec![0; data]));
     let mut bytes = M.to_vec();
     bytes.extend(packet(0xFD, &[]));
     let tail = [media(0), packet(0xFB, &[])].concat();
-    let left = MOST - bytes.len() - tail.len();
+    let left = most - bytes.len() - tail.len();
     if rng.chance(1, 2) {
         let mut one = packet(0xBF, &media_payload(10, 1, 6, [0, 0], 1, &[]));
         one.resize(left, 0);
@@ -64,7 +68,7 @@ fn stream(rng: &mut Rng) -> Vec<u8> {
     } else {
         let each = 32 + 4 * rng.below(3);
         let mut many = 0;
-        while MOST - bytes.len() - tail.len() >= 2 * (each + M.len()) + 32 {
+        while most - bytes.len() - tail.len() >= 2 * (each + M.len()) + 32 {
             bytes.extend(packet(
                 0xBF,
                 &media_payload(10, 1, 6, [0, 0], 1, &vec![0; each - 32]),
@@ -74,11 +78,11 @@ fn stream(rng: &mut Rng) -> Vec<u8> {
                 bytes.extend(M);
             }
         }
-        let rest = MOST - bytes.len() - tail.len();
+        let rest = most - bytes.len() - tail.len();
         bytes.extend(packet(0xFE, &vec![0; rest - 16]));
     }
     bytes.extend(tail);
-    assert_eq!(bytes.len(), MOST);
+    assert_eq!(bytes.len(), most);
     bytes
 }
 

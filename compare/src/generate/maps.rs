@@ -683,12 +683,96 @@ pub fn map_fault(rng: &mut Rng) -> Made {
     (ask(rng, &bytes, n), claim)
 }
 
-/// Two faults at one place: the order 8, 12, 8, 10 of a header and 8, 9, 11, 10 of an item.
+/// The known tags of a section with their sizes; 0 for a text.
+const MATERIAL_TAGS: [(u8, usize); 6] = [
+    (0x40, 0),
+    (0x41, 4),
+    (0x42, 4),
+    (0x43, 4),
+    (0x44, 4),
+    (0x45, 4),
+];
+const TRACK_TAGS: [(u8, usize); 7] = [
+    (0x4C, 0),
+    (0x4D, 8),
+    (0x4E, 4),
+    (0x4F, 0),
+    (0x50, 4),
+    (0x51, 4),
+    (0x52, 4),
+];
+
+/// A tag twice (or 4D with 4F) and a wrong size or bad text in one section: at one item, or the one before the other.
+/// The first in walk order counts, and at one item 9 and 11 come before 10.
+fn beside_a_repeated_tag(rng: &mut Rng, model: &mut Model) -> (u8, usize) {
+    let track = if rng.chance(1, 2) {
+        Some(some_track(rng, model))
+    } else {
+        None
+    };
+    let (items, tags) = match track {
+        Some(i) => (&mut model.tracks[i].items, &TRACK_TAGS[..]),
+        None => (&mut model.material, &MATERIAL_TAGS[..]),
+    };
+    let good = |rng: &mut Rng, (tag, size): (u8, usize)| match size {
+        0 => Item::new(tag, &text(rng)),
+        _ => Item::new(tag, &rng.bytes(size)),
+    };
+    let bad = |rng: &mut Rng, (tag, size): (u8, usize)| match size {
+        0 => (Item::new(tag, &bad_text(rng)), 11),
+        _ => (missized(rng, tag, size), 9),
+    };
+    let first = rng.pick(tags);
+    let again = match first.0 {
+        0x4D | 0x4F => rng.pick(&[TRACK_TAGS[1], TRACK_TAGS[3]]),
+        _ => first,
+    };
+    let other = rng.pick(tags);
+    items.retain(|item| {
+        !matches!(item.tag, 0x4D | 0x4F) && item.tag != first.0 && item.tag != other.0
+    });
+    // the items to be set in, in this order; which of them is refused, and with what
+    let (set_in, which, number) = match rng.below(5) {
+        0 => {
+            let (item, number) = bad(rng, again);
+            (vec![good(rng, first), item], 1, number)
+        }
+        1 => {
+            let (item, number) = bad(rng, first);
+            (vec![item, good(rng, again)], 0, number)
+        }
+        2 => {
+            let (item, _) = bad(rng, other);
+            (vec![good(rng, first), good(rng, again), item], 1, 10)
+        }
+        3 => {
+            let (item, number) = bad(rng, other);
+            (vec![good(rng, first), item, good(rng, again)], 1, number)
+        }
+        _ => {
+            let (item, number) = bad(rng, other);
+            (vec![item, good(rng, first), good(rng, again)], 0, number)
+        }
+    };
+    let mut places: Vec<usize> = set_in.iter().map(|_| rng.below(items.len() + 1)).collect();
+    places.sort_unstable();
+    for (k, item) in set_in.into_iter().enumerate() {
+        items.insert(places[k] + k, item);
+    }
+    let refused = places[which] + which;
+    let layout = model.encode().1;
+    match track {
+        Some(i) => (number, layout.tracks[i].1[refused]),
+        None => (number, layout.material[refused]),
+    }
+}
+
+/// Two faults: at one place, by the order 8, 12, 8, 10 of a header and 8, 9, 11, 10 of an item; or in one section.
 pub fn map_pair(rng: &mut Rng) -> Made {
     let mut model = valid(rng, true);
     let i = some_track(rng, &mut model);
     let last = model.tracks.len() - 1;
-    let (number, place) = match rng.below(6) {
+    let (number, place) = match rng.below(10) {
         // 12 before overhang
         0 => {
             model.tracks[last].type_byte &= 0x7F;
@@ -732,7 +816,7 @@ pub fn map_pair(rng: &mut Rng) -> Made {
             (11, *model.encode().1.tracks[i].1.last().unwrap())
         }
         // overhang before another size, bad text and a tag twice
-        _ => {
+        5 => {
             let (tag, size) = rng.pick(&FIXED_IN_TRACK);
             let items = &mut model.tracks[i].items;
             let mut item = missized(rng, tag, size);
@@ -741,6 +825,7 @@ pub fn map_pair(rng: &mut Rng) -> Made {
             items.push(item);
             (8, *model.encode().1.tracks[i].1.last().unwrap())
         }
+        _ => beside_a_repeated_tag(rng, &mut model),
     };
     let n = rng.below(3);
     let claim = refused(number, place as u64).map(|claim| claim + &" kept".repeat(n));

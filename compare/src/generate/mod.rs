@@ -30,7 +30,7 @@ pub const KINDS: [(&str, Maker); 58] = [
     ("map valid", maps::map_valid),
     ("map newer", maps::map_newer),
     ("map one fault", maps::map_fault),
-    ("map two faults at a place", maps::map_pair),
+    ("map two faults", maps::map_pair),
     ("map many changes", maps::map_many),
     ("map byte damage", maps::map_bytes),
     ("map bench damage", maps::map_bench),
