@@ -221,10 +221,8 @@ def page_of(text):
         listed = re.split(r"\.\s", about.split("from the other side:", 1)[1], maxsplit=1)[0]
         for crate, edits in re.findall(r"(\w+)\s+([^;]+)", listed):
             defining |= edits_in(edits, crate)
-    for crate, paragraph in re.findall(r"the edits are in `(\w+)`(.*?)(?:\n\n|\Z)", about, re.S):
-        for group in re.findall(r"\(([\w\s,]+)\)", paragraph):  # "(EDIT, EDIT)", or of another crate "(CRATE EDIT, EDIT)"
-            first = group.split(",")[0].split()
-            named |= edits_in(group, crate) if len(first) == 1 else edits_in(group.split(None, 1)[1], first[0])
+    for crate, edits in re.findall(r"^\| `[^`]+` of `(\w+)` \|[^|]*\|([^|]*)\|$", about, re.M):  # the edits that make a theorem false
+        named |= edits_in(edits, crate)
     return Page(rows, may_ask, named | defining, defining)
 
 
@@ -349,13 +347,14 @@ def judge(top):
     for crate in crates:
         folder = f"{top}/crates/{crate}"
         theorems = theorems_of(folder)
-        for f in functions_of(folder):
+        functions = functions_of(folder)
+        for f in functions:
             seen.add(f"{crate}::{f.name}")
             asking |= {f"{crate}::{f.name}"} if f.requires else set()
             faults += [f"{crate}::{f.name}: {what}" for what in faults_of_function(crate, f, theorems, page)]
         found, changing = edits_of(folder)
         edits |= {f"{crate}/{e}" for e in found}
-        defining |= {f"{crate}/{e}" for e in changing if crate != "newer"}  # demand 3 has definitions alone
+        defining |= {f"{crate}/{e}" for e in changing if functions}  # a crate without functions has definitions alone
     faults += [f"{name}: docs/PROMISES.md lets it ask, and it does not" for name in sorted(page.may_ask - asking)]
     faults += [f"{name}: docs/PROMISES.md has a row for it, and there is no such public function" for name in sorted(page.rows - seen)]
     faults += [f"{e}: docs/PROMISES.md names this edit, and there is none" for e in sorted(page.named - edits)]

@@ -110,7 +110,9 @@ PAGE = """# Promises
 
 They show it from the other side: a turned. Words.
 
-Of demand 3 the edits are in `newer`: a known one (known), and of others (a wrong).
+| Theorem | Would be wrong | Edit |
+|---|---|---|
+| `Demand` of `newer` | words | known |
 """
 
 EDIT = "# a wrong program\nfile: src/lib.rt\nold: x\nnew: y\n"
@@ -307,8 +309,7 @@ class Promises(unittest.TestCase):
 
     def test_edit_that_is_not_there(self):
         self.of_page("wrong, other;", "wrong, other, gone;", "a/gone: docs/PROMISES.md names this edit")
-        self.of_page("(known)", "(known, gone)", "newer/gone: docs/PROMISES.md names this edit")
-        self.of_page("(a wrong)", "(a gone)", "a/gone: docs/PROMISES.md names this edit")
+        self.of_page("| known |", "| known, gone |", "newer/gone: docs/PROMISES.md names this edit")
 
     def test_edit_of_a_definition(self):
         self.faulty({**GOOD, "crates/a/must-fail/wrong.edit": EDIT.replace("src/lib.rt", "specs/A.antt")}, "a/wrong: changes a definition, or does not")
