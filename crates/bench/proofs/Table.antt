@@ -42,7 +42,6 @@ use Rattle.parameter.specs.Table as row
 use Rattle.parameter.specs.Parameters as parameter
 use Rattle.parameter.specs.Meaning as meaning
 use Rattle.parameter.specs.Meaning.{Meaning, number, float}
-use Rattle.parameter.specs.declared.Parameters.{Parameters}
 use Rattle.mpeg.specs.Lines as lines
 use Rattle.mpeg.specs.Read as mpeg
 use Rattle.mpeg.specs.Meaning as text
@@ -165,7 +164,7 @@ textMeans (mpeg-answer.Given x) =
     (x .ver ∷ x .br ∷ x .ipg ∷ x .ppi ∷ x .bpiop ∷ x .pix ∷ x .cf ∷ x .cg ∷ x .sl ∷ x .nl16 ∷ x .vi ∷ x .f1 ∷ x .cbpg ∷ x .ar ∷ []))
 textMeans (mpeg-answer.Refused r) = refuses r
 
--- a text with `Br 0.5`, its other parameters Ver 1, Ipg 1, Ppi 4, Bpiop 2, Pix 0, Cf 2, Cg 1, Sl 31, nl16 68, Vi 1, f1 1, no cbpg and no ar: the float is 0.5
+-- the text of mpeg/proofs/Worked.antt, with `Br 0.5`; its other parameters are Ver 1, Ipg 1, Ppi 4, Bpiop 2, Pix 0, Cf 2, Cg 1, Sl 31, nl16 68, Vi 1, f1 1, no cbpg and no ar: the float is 0.5
 abbrev pub brHalf : TextMeans
 brHalf =
     given

@@ -1,5 +1,5 @@
 -- The parameters of an accepted text mean the numbers that its lines give, over the contract of `read` as the checker reads it.
-use Prim.Native.Nat.{ℕ, zero, suc, _+_, _-_, _<_, _≤_}
+use Prim.Native.Nat.{ℕ, _+_, _-_, _<_, _≤_}
 use mathlib.Core.Path.{_≡_, refl, sym, _∙_, ap}
 use mathlib.Core.Bool.{Bool, true, false}
 use mathlib.Core.Logic.{_⊎_, inl, inr}
@@ -19,9 +19,10 @@ use Rattle.decimal.specs.declared.Amount.{Amount}
 use Rattle.decimal.specs.declared.Amount.the-variants.{Of, Malformed}
 use Rattle.parameter.specs.Table.{table, rowAt, required}
 use Rattle.parameter.specs.Parameters.{amountOf, given, numberOf, wanting, lacking, valueAt, parametersOf}
-use Rattle.parameter.specs.Meaning.{meaningOf, meant}
+use Rattle.parameter.specs.Meaning.{meaningOf}
 use Rattle.parameter.specs.declared.Parameters.{Parameters}
-use Rattle.parameter.proofs.Meaning.{value-means}
+use Rattle.parameter.proofs.Laws.{none-wanting}
+use Rattle.parameter.proofs.Meaning.{meant, value-means}
 use Rattle.mpeg.specs.Lines.{Lines, done, malformed, line, linesAt}
 use Rattle.mpeg.specs.Read.{Judged, judge, taken, ended, answerOf, readOf}
 use Rattle.mpeg.specs.Meaning.{Number, none, is, listed, givenBy, givenIn, orZero, Means}
@@ -99,18 +100,6 @@ module _ (k : ℕ) (h : k < 14) where
           let w = eqb-false j k q in
           let o = getD-set-other slots j k (n + 1) 0 (λ i. w (sym i)) in
           ap (λ x. told k (slotIn x)) f ∙ on (set slots j (n + 1)) (length-set slots j (n + 1) ∙ l) d (o ∙ g)
-
--- where no row lacks, none of them is wanting
-none-wanting : (slots : List ℕ) (n : ℕ) → lacking slots n ≡ false → (k : ℕ) → k < n → wanting (rowAt k) (getD slots k 0) ≡ false
-unfolding lacking
-none-wanting slots zero e k h = absurd (omega arith)
-none-wanting slots (suc n) e k h = go (wanting (rowAt n) (getD slots n 0)) (eqb k n) refl refl e (none-wanting slots n)
-  where
-    go : (a b : Bool) → wanting (rowAt n) (getD slots n 0) ≡ a → eqb k n ≡ b → pick a true (lacking slots n) ≡ false
-        → (lacking slots n ≡ false → (k : ℕ) → k < n → wanting (rowAt k) (getD slots k 0) ≡ false) → wanting (rowAt k) (getD slots k 0) ≡ false
-    go true b p q e on = absurd (let z : _≡_ {A = ℕ} 0 1 = cc in omega arith)
-    go false true p q e on = rw (eqb-true k n q) p
-    go false false p q e on = on e k (let w = eqb-false k n q in omega arith)
 
 module _ (k slot : ℕ) where
   -- a slot's number is what it gives

@@ -47,11 +47,11 @@ IsWhole v k x = (n : ℕ) × (givenIn v k ≡ is n) × (meaningOf x ≡ number n
 abbrev pub IsRate : List ℕ → ℕ → ParameterValue → Type 0
 IsRate v k x = (n : ℕ) × (givenIn v k ≡ is n) × (meaningOf x ≡ float (bitsOf n))
 
--- it may give none
+-- it may give none, and x then means 0
 abbrev pub IsOptional : List ℕ → ℕ → ParameterValue → Type 0
 IsOptional v k x = meaningOf x ≡ number (orZero (givenIn v k))
 
--- in the table's order
+-- every parameter, in the table's order
 pub record Means (v : List ℕ) (x : Parameters) : Type 0 where
   pub ver : IsWhole v 0 (x .ver)
   pub br : IsRate v 1 (x .br)

@@ -2,10 +2,7 @@
 use Prim.Native.Nat.{ℕ}
 use lib.Ieee as Ieee
 use lib.Ieee.{binary64}
-use Rattle.plate.specs.Choice.{pick}
-use Rattle.parameter.specs.Table.{rate}
 use Rattle.parameter.specs.Parameters.{millionths}
-use Rattle.parameter.specs.declared.Row.{Row}
 use Rattle.parameter.specs.declared.ParameterValue.{ParameterValue}
 use Rattle.parameter.specs.declared.ParameterValue.the-variants.{Whole, Rate}
 
@@ -20,7 +17,3 @@ meaningOf (Rate x) = float (Ieee.toBits binary64 x)
 -- the bits of N divided by 1,000,000 in one float division
 unfoldable pub bitsOf : ℕ → ℕ
 bitsOf n = Ieee.toBits binary64 (millionths n)
-
--- what a row's parameter means that is given n: of a rate n is in millionths
-unfoldable pub meant : Row → ℕ → Meaning
-meant r n = pick (rate r) (float (bitsOf n)) (number n)
