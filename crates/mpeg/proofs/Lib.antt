@@ -1,5 +1,6 @@
 pub mod Judging
 pub mod Laws
+pub mod Meaning
 pub mod Once
 pub mod Turns
 pub mod Worked

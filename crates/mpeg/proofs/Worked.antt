@@ -3,22 +3,22 @@ use Prim.Native.Nat.{ℕ, _^_}
 use mathlib.Core.Path.{_≡_, refl}
 use mathlib.Core.List.{List, [], _∷_, map}
 use lib.Ieee as Ieee
-use lib.Ieee.{binary64}
 use Rattle.number.specs.Number.{be}
 use Rattle.text.specs.Text.{textOk}
 use Rattle.scan.specs.Scan.{run, runEnd, alnum, other}
 use Rattle.decimal.specs.Decimal.{digits, numeralOf, fractionOf, wholeOf, rateOf}
 use Rattle.parameter.specs.Table.{table, rowAt, otherRow, rowFor, rowOf}
 use Rattle.parameter.specs.Parameters.{amountOf, given, wanting, numberOf, millionths, valueOf, lacking, parametersOf}
+use Rattle.parameter.specs.Meaning.{bitsOf}
 use Rattle.mpeg.specs.Lines.{labelAt, linesFrom, linesAt}
 use Rattle.mpeg.specs.Read.{taken, judge, answerOf, readOf}
 use Rattle.parameter.specs.declared.ParameterValue.the-variants.{Whole, Rate}
 use Rattle.mpeg.specs.declared.MpegAnswer.the-variants.{Given}
 
 -- 0.5; 9007199254.740992, the largest; 0; 0.000001; 50000000; 0.123456
-pub bits : map (λ (n : ℕ). Ieee.toBits binary64 (millionths n)) (500000 ∷ 2 ^ 53 ∷ 0 ∷ 1 ∷ 50000000000000 ∷ 123456 ∷ [])
+pub bits : map bitsOf (500000 ∷ 2 ^ 53 ∷ 0 ∷ 1 ∷ 50000000000000 ∷ 123456 ∷ [])
     ≡ 0x3FE0000000000000 ∷ 0x4200C6F7A0B5ED8D ∷ 0 ∷ 0x3EB0C6F7A0B5ED8D ∷ 0x4187D78400000000 ∷ 0x3FBF9ACFFA7EB6BF ∷ []
-unfolding millionths Ieee.toBits Ieee.div Ieee.ofInt Ieee.round
+unfolding bitsOf millionths Ieee.toBits Ieee.div Ieee.ofInt Ieee.round
 bits = refl
 
 -- every parameter that must be given, and a line that is passed over

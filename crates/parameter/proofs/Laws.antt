@@ -4,9 +4,9 @@ use mathlib.Core.Path.{_≡_, refl, sym, subst}
 use mathlib.Core.Bool.{Bool, true, false, not}
 use mathlib.Core.List.{List}
 use native.Mathlib.Omega.{arith}
-use borrow.Author.Tests.{ltb-true, leb-true}
+use borrow.Author.Tests.{ltb-true, leb-true, eqb-true, eqb-false}
 use lib.ListN.{getD}
-use lib.Dec.{T, ltb, leb}
+use lib.Dec.{T, ltb, leb, eqb}
 use lib.Ieee.{Float, nan, inf, fin, eq, isNan}
 use Rattle.plate.specs.Choice.{pick}
 use Rattle.decimal.specs.Decimal.{wholeOf, rateOf}
@@ -48,6 +48,18 @@ pub lacking-turn : (slots : List ℕ) (k : ℕ) → 0 < k → lacking slots k �
 unfolding lacking
 lacking-turn slots zero h = absurd (omega arith)
 lacking-turn slots (suc n) h = let e : suc n - 1 ≡ n = omega arith in rw e
+
+-- where none of the first n rows is wanting, row k of them is not
+pub none-wanting : (slots : List ℕ) (n : ℕ) → lacking slots n ≡ false → (k : ℕ) → k < n → wanting (rowAt k) (getD slots k 0) ≡ false
+unfolding lacking
+none-wanting slots zero e k h = absurd (omega arith)
+none-wanting slots (suc n) e k h = go (wanting (rowAt n) (getD slots n 0)) (eqb k n) refl refl e (none-wanting slots n)
+  where
+    go : (a b : Bool) → wanting (rowAt n) (getD slots n 0) ≡ a → eqb k n ≡ b → pick a true (lacking slots n) ≡ false
+        → (lacking slots n ≡ false → (k : ℕ) → k < n → wanting (rowAt k) (getD slots k 0) ≡ false) → wanting (rowAt k) (getD slots k 0) ≡ false
+    go true b p q e on = absurd (let z : _≡_ {A = ℕ} 0 1 = cc in omega arith)
+    go false true p q e on = rw (eqb-true k n q) p
+    go false false p q e on = on e k (let w = eqb-false k n q in omega arith)
 
 -- a rate that equals itself is a number, so that it has bits
 pub no-nan : (x : Float) → eq x x ≡ true → T (not (isNan x))

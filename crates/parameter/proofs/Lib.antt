@@ -1,4 +1,5 @@
 pub mod Laws
+pub mod Meaning
 pub mod Names
 pub mod Once
 pub mod Rows
