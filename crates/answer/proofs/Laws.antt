@@ -1,14 +1,15 @@
 -- What a part that was found tells of the bytes, and which numbers are codes.
 use Prim.Native.Nat.{ℕ, _+_, _-_, _<_, _≤_}
 use mathlib.Core.Path.{_≡_, refl, sym, _∙_}
-use mathlib.Core.List.{List, [], _∷_}
+use mathlib.Core.List.{List}
 use mathlib.Core.Bool.{Bool, true, false}
 use native.Mathlib.Omega.{arith}
 use native.Mathlib.Nat.{add-zero}
 use lib.ListN.{length, take, drop}
-use lib.Dec.{eqb, ltb}
-use borrow.Author.Tests.{eq-eqb, ne-eqb, le-leb, lt-leb, ltb-true, ltb-false}
-use Rattle.plate.specs.Choice.{pick, within}
+use lib.Dec.{eqb, leb}
+use borrow.Author.Tests.{eq-eqb, ne-eqb, le-leb, lt-leb, leb-true, leb-false}
+use Rattle.plate.specs.Choice.{pick}
+use Rattle.plate.proofs.Tests.{no-choice}
 use Rattle.number.specs.Number.{be}
 use Rattle.number.proofs.Laws.{be-drop, be-take}
 use Rattle.items.specs.Items.{sectionOf}
@@ -61,19 +62,21 @@ pub nothing-value : (x : Found) → partOf x ≡ part.Absent → value.Absent �
 unfolding valueOf
 nothing-value x e = sym (rw (none-behind x e))
 
--- a number over 255 has no meaning, so one with a meaning is under 256
-large : (tag n : ℕ) → 256 ≤ n → allowed tag n ≡ false
+-- no number over 8 has a meaning
+pub over-allowed : (tag n : ℕ) → 8 < n → allowed tag n ≡ false
 unfolding allowed has
-large tag n h = go (eqb tag 0x50) (eqb tag 0x51)
+over-allowed tag n h =
+    simp (le-leb 1 n (omega arith), lt-leb n 8 (omega arith), ne-eqb n 1 (λ e. omega arith), ne-eqb n 2 (λ e. omega arith), ne-eqb n 4 (λ e. omega arith), ne-eqb n 6 (λ e. omega arith))
+    (go (eqb tag 0x50) (eqb tag 0x51) (eqb tag 0x52))
   where
-    go : (a b : Bool) → pick a (within 1 8 n) (pick b (has n (1 ∷ 2 ∷ 4 ∷ 6 ∷ [])) (has n (1 ∷ 2 ∷ []))) ≡ false
-    go true b = simp (le-leb 1 n (omega arith), lt-leb n 8 (omega arith))
-    go false true = simp (ne-eqb n 1 (λ e. omega arith), ne-eqb n 2 (λ e. omega arith), ne-eqb n 4 (λ e. omega arith), ne-eqb n 6 (λ e. omega arith))
-    go false false = simp (ne-eqb n 1 (λ e. omega arith), ne-eqb n 2 (λ e. omega arith))
+    go : (x y z : Bool) → pick x false (pick y false (pick z false false)) ≡ false
+    go true y z = refl
+    go false true z = refl
+    go false false z = no-choice z false
 
-pub allowed-small : (tag n : ℕ) → allowed tag n ≡ true → n < 256
-allowed-small tag n e = go (ltb n 256) refl
+pub allowed-small : (tag n : ℕ) → allowed tag n ≡ true → n ≤ 8
+allowed-small tag n e = go (leb n 8) refl
   where
-    go : (b : Bool) → ltb n 256 ≡ b → n < 256
-    go true q = ltb-true _ _ q
-    go false q = absurd (let f : true ≡ false = sym e ∙ large tag n (ltb-false _ _ q) in let z : _≡_ {A = ℕ} 0 1 = cc in omega arith)
+    go : (b : Bool) → leb n 8 ≡ b → n ≤ 8
+    go true q = leb-true _ _ q
+    go false q = absurd (let f : true ≡ false = sym e ∙ over-allowed tag n (leb-false _ _ q) in let z : _≡_ {A = ℕ} 0 1 = cc in omega arith)

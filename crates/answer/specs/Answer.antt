@@ -1,6 +1,8 @@
 -- What items say (RDD 14, Tables 4 and 6; 01, "Map"): numbers, codes, the material answer and the track record.
 use Prim.Native.Nat.{ℕ, _-_}
+use mathlib.Core.Path.{_≡_}
 use mathlib.Core.Bool.{Bool, false}
+use mathlib.Core.Logic.{_⊎_}
 use mathlib.Core.List.{List, [], _∷_}
 use lib.ListN.{length}
 use lib.Dec.{eqb, ltb}
@@ -29,7 +31,7 @@ unfoldable pub allowed : ℕ → ℕ → Bool
 allowed tag n =
     pick (eqb tag 0x50) (within 1 8 n)
     (pick (eqb tag 0x51) (has n (1 ∷ 2 ∷ 4 ∷ 6 ∷ []))
-    (has n (1 ∷ 2 ∷ [])))
+    (pick (eqb tag 0x52) (has n (1 ∷ 2 ∷ [])) false))
 
 -- INT32: all ones is −1, not applicable; one less is −2, not available; any value without a meaning counts as absent
 unfoldable pub codeOf : ℕ → Value → Code
@@ -53,6 +55,23 @@ meaningOf code.Absent = nothing
 -- four bytes as INT32; `negsuc n` is −(n + 1)
 unfoldable pub signed : ℕ → ℤ
 signed n = pick (ltb n 0x80000000) (pos n) (negsuc (0xFFFFFFFF - n))
+
+-- 01, "Codes", as it has them, by signed numbers: rate (50) 1 to 8; lines (51) 1, 2, 4, 6; fields (52) 1, 2; in all three −1 and −2
+unfoldable pub codesOf : ℕ → List ℤ
+codesOf tag =
+    pick (eqb tag 0x50) (pos 1 ∷ pos 2 ∷ pos 3 ∷ pos 4 ∷ pos 5 ∷ pos 6 ∷ pos 7 ∷ pos 8 ∷ negsuc 0 ∷ negsuc 1 ∷ [])
+    (pick (eqb tag 0x51) (pos 1 ∷ pos 2 ∷ pos 4 ∷ pos 6 ∷ negsuc 0 ∷ negsuc 1 ∷ [])
+    (pick (eqb tag 0x52) (pos 1 ∷ pos 2 ∷ negsuc 0 ∷ negsuc 1 ∷ []) []))
+
+unfoldable pub In : ℤ → List ℤ → Type 0
+In x [] = ⊥
+In x (y ∷ ys) = (x ≡ y) ⊎ In x ys
+
+-- the code of an item with the number n: the signed number that n is where 01 lists it, and absent just where it does not
+pub record CodeSays (tag n : ℕ) : Type 0 where
+  pub listed : In (signed n) (codesOf tag) → meaningOf (codeOf tag (value.Is n)) ≡ number (signed n)
+  pub other : (In (signed n) (codesOf tag) → ⊥) → meaningOf (codeOf tag (value.Is n)) ≡ nothing
+  pub absent : meaningOf (codeOf tag (value.Is n)) ≡ nothing → In (signed n) (codesOf tag) → ⊥
 
 -- the null name: in an accepted section a text of one byte is a lone 00
 unfoldable pub isNull : Part → Bool

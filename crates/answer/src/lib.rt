@@ -101,6 +101,9 @@ pub fn is_allowed(tag: u8, n: u32) -> bool
     if tag == 0x51 {
         return is_line_code(n);
     }
+    if tag != 0x52 {
+        return false;
+    }
     if n == 1 {
         return true;
     }

@@ -16,6 +16,6 @@ after a zs = record { answer = a; records = zs }
 unfoldable pub afterFill : List Track → ℕ → List ℕ → ℕ → After
 afterFill xs n s at = after (answerFor s at n) (lentAfter (recordsAt s at) (take n xs) (answerFor s at n) ++ drop n xs)
 
--- of 80 records, how many are lent where n are asked for; more never shows in an answer, as a map lists 64 tracks at most
+-- of 80 records, how many are lent where n are asked for; more never shows in an answer, as an accepted map lists 64 tracks at most (`map-64` in map/proofs/Most.antt)
 unfoldable pub lentOf : ℕ → ℕ
 lentOf n = pick (ltb n 80) n 80

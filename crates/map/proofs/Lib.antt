@@ -1,6 +1,7 @@
 pub mod Encoded
 pub mod Faults
 pub mod Laws
+pub mod Most
 pub mod Numbers
 pub mod Once
 pub mod Parts

@@ -49,12 +49,13 @@ pub over-allowed : (tag n : ℕ) → 8 < n → allowed tag n ≡ false
 unfolding allowed has
 over-allowed tag n h =
     simp (le-leb 1 n (omega arith), lt-leb n 8 (omega arith), ne-eqb n 1 (λ e. omega arith), ne-eqb n 2 (λ e. omega arith), ne-eqb n 4 (λ e. omega arith), ne-eqb n 6 (λ e. omega arith))
-    (go (eqb tag 0x50) (eqb tag 0x51))
+    (go (eqb tag 0x50) (eqb tag 0x51) (eqb tag 0x52))
   where
-    go : (x y : Bool) → pick x false (pick y false false) ≡ false
-    go true y = refl
-    go false true = refl
-    go false false = refl
+    go : (x y z : Bool) → pick x false (pick y false (pick z false false)) ≡ false
+    go true y z = refl
+    go false true z = refl
+    go false false true = refl
+    go false false false = refl
 
 pub allowed-over : (tag n : ℕ) → allowed tag n ≡ true → n ≤ 8
 allowed-over tag n e = go (leb n 8) refl

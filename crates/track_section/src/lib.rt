@@ -117,7 +117,7 @@ pub fn judge(s: &[u8], base: usize) -> Verdict
             return items::refused(plate::TWICE, base + at);
         }
         let a = at + 4;
-        let e = a + n;
+        let e = a + n; // its length is that of its items alone
         match judge_track(kind, &s[a..e], base + a) {
             Verdict::Refused(r) => {
                 return Verdict::Refused(r);

@@ -1,16 +1,13 @@
--- What the walker's definitions say: a step's answer is that of the bytes from its place on, a refused step leaves the place, and a step behind a packet stays in the stream; so of many steps the last change nothing.
+-- What the walker's definitions say: a step's answer is that of the header at its place alone, a refused step leaves the place, and a step behind a packet stays in the stream; so of many steps the last change nothing.
 use Prim.Native.Nat.{ℕ, zero, suc, _+_, _-_, _≤_, _*_, _/_, _<_}
 use mathlib.Core.Path.{_≡_, refl, sym, ap, _∙_}
 use mathlib.Core.List.{List}
 use native.Mathlib.Omega.{arith}
-use lib.ListN.{length, getD, drop, length-drop}
-use lib.Seq.{getD-drop}
-use Rattle.number.specs.Number.{be}
-use Rattle.number.proofs.Laws.{be-drop}
-use Rattle.packet.specs.Packet.{headerAt, sizedAt}
+use lib.ListN.{length, take, drop}
+use Rattle.packet.specs.Packet.{headerAt}
 use Rattle.packet.specs.declared.Packet.{Packet}
 use Rattle.packet.specs.declared.PacketAnswer.the-variants.{Whole, Refused}
-use Rattle.packet.proofs.Laws.{whole}
+use Rattle.packet.proofs.Laws.{whole, by-header}
 use Rattle.plate.specs.declared.Refusal.{Refusal}
 use Rattle.walker.specs.Walk.{placeAfter, placeOf, Stepped, turnsOf}
 use mathlib.Core.Bool.{Bool, true, false}
@@ -22,18 +19,6 @@ use denote.Ref.{now}
 use Rattle.plate.specs.Choice.{pick}
 use Rattle.packet.specs.declared.PacketAnswer.{PacketAnswer}
 use Rattle.walker.specs.declared.Walker.{Walker}
-
--- a number that stands k bytes behind a place is one of the bytes from there on
-be-rest : (s t : List ℕ) (at k n m : ℕ) → drop at s ≡ drop at t → at + k ≡ m → be s m n ≡ be t m n
-be-rest s t at k n m e f = rw (← f) (sym (be-drop at s k n) ∙ (ap (λ (x : List ℕ). be x k n) e ∙ be-drop at t k n))
-
--- two streams that are the same from a place on give the same answer there
-pub by-rest : (s t : List ℕ) (at : ℕ) → drop at s ≡ drop at t → headerAt s at ≡ headerAt t at
-unfolding headerAt sizedAt
-by-rest s t at e =
-    let l : length s - at ≡ length t - at = sym (length-drop at s) ∙ (ap (λ (x : List ℕ). length x) e ∙ length-drop at t) in
-    let k : getD s (at + 5) 0 ≡ getD t (at + 5) 0 = sym (getD-drop at s 5 0) ∙ (ap (λ (x : List ℕ). getD x 5 0) e ∙ getD-drop at t 5 0) in
-    rw (l, k, be-rest s t at 0 5 at e (omega arith), be-rest s t at 14 2 (at + 14) e refl, be-rest s t at 6 4 (at + 6) e refl)
 
 -- a refused step leaves the place, and so do all after it
 pub refused-stays : (s : List ℕ) (at : ℕ) (r : Refusal) (n : ℕ) → headerAt s at ≡ Refused r → placeOf s at n ≡ at
@@ -47,12 +32,16 @@ pub moves-on : (s : List ℕ) (at : ℕ) (p : Packet) → headerAt s at ≡ Whol
 unfolding placeAfter
 moves-on s at p e = let g = whole s at p e in rw e (refl, omega (arith, g .least), omega (arith, g .within, g .least))
 
--- over the contract: two walkers at one place, over streams that are the same from there on, give the same answer and move alike
-pub alone : (w v : Walker) (r t : PacketAnswer) (x y : Walker) → w .at ≡ v .at → drop (w .at) (now (w .stream)) ≡ drop (w .at) (now (v .stream)) → Stepped w r x → Stepped v t y
+-- over the contract: two walkers at one place, over streams that have the same sixteen bytes of header there and as many bytes left, give the same answer and move alike;
+-- so a step looks at no byte behind the header that it answers for
+pub alone : (w v : Walker) (r t : PacketAnswer) (x y : Walker) → w .at ≡ v .at
+    → take 16 (drop (w .at) (now (w .stream))) ≡ take 16 (drop (w .at) (now (v .stream)))
+    → length (now (w .stream)) - w .at ≡ length (now (v .stream)) - w .at
+    → Stepped w r x → Stepped v t y
     → (r ≡ t) × (x .at ≡ y .at)
 unfolding Stepped
-alone w v r t x y e f g k =
-    let a : headerAt (now (w .stream)) (w .at) ≡ headerAt (now (v .stream)) (v .at) = by-rest (now (w .stream)) (now (v .stream)) (w .at) f ∙ ap (headerAt (now (v .stream))) e in
+alone w v r t x y e f l g k =
+    let a : headerAt (now (w .stream)) (w .at) ≡ headerAt (now (v .stream)) (v .at) = by-header (now (w .stream)) (now (v .stream)) (w .at) f l ∙ ap (headerAt (now (v .stream))) e in
     let b : placeAfter (w .at) (headerAt (now (w .stream)) (w .at)) ≡ placeAfter (v .at) (headerAt (now (v .stream)) (v .at)) = rw (a, e) in
     (g .0 ∙ (a ∙ sym (k .0)), ap (λ (z : Walker). z .at) (g .1) ∙ (b ∙ sym (ap (λ (z : Walker). z .at) (k .1))))
 

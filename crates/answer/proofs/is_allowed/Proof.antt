@@ -31,7 +31,11 @@ returns-6 : tie.Need-returns-6
 unfolding allowed has
 returns-6 c = search tests
 
+returns-7 : tie.Need-returns-7
+unfolding allowed has
+returns-7 c = search tests
+
 pub is-allowed-spec : {M : Type 1} → statement M
 is-allowed-spec =
     tie.close
-    (tie.spec returns returns-2 is-line-code-requires returns-3 returns-4 returns-5 returns-6)
+    (tie.spec returns returns-2 is-line-code-requires returns-3 returns-4 returns-5 returns-6 returns-7)
