@@ -1,2 +1,4 @@
 pub mod Cases
+pub mod Given
+pub mod Streams
 pub mod Table
