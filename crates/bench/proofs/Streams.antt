@@ -16,15 +16,11 @@ use Rattle.media.specs.Media as media
 use Rattle.piece.specs.Piece as piece
 use Rattle.order.specs.Order as order
 use Rattle.stream.specs.Stream as stream
-use Rattle.stream.specs.declared.CheckAnswer.{CheckAnswer}
 use Rattle.stream.specs.declared.CheckAnswer.the-variants as check
-use Rattle.stream.specs.declared.SeekAnswer.{SeekAnswer}
 use Rattle.stream.specs.declared.SeekAnswer.the-variants as seek
 use Rattle.book.specs.Book as book
-use Rattle.book.specs.declared.LookupAnswer.{LookupAnswer}
 use Rattle.book.specs.declared.LookupAnswer.the-variants as lookup
 use Rattle.book_builder.specs.BookBuilder as builder
-use Rattle.book_builder.specs.declared.BuildAnswer.{BuildAnswer}
 use Rattle.book_builder.specs.declared.BuildAnswer.the-variants as build
 use Rattle.bench.proofs.Table.{headed, M}
 
