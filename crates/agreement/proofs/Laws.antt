@@ -1,16 +1,14 @@
 -- Two answers that are one are alike; a book that was built had room, and look-up in it and seek are alike.
-use Prim.Native.Nat.{ℕ, _-_, _*_, _^_, _<_, _≤_}
+use Prim.Native.Nat.{ℕ, _-_, _*_, _≤_}
 use mathlib.Core.Path.{_≡_, refl, sym, _∙_}
 use mathlib.Core.Bool.{Bool, true, false}
 use mathlib.Core.List.{List}
 use native.Mathlib.Omega.{arith}
 use lib.ListN.{length, take}
 use lib.Dec.{ltb}
+use denote.Ref.{RefT}
 use borrow.Author.Tests.{eq-eqb, ltb-false}
-use Rattle.plate.specs.Choice.{pick}
 use Rattle.plate.specs.Plate.{refusal}
-use Rattle.plate.specs.declared.Refusal.{Refusal}
-use Rattle.number.proofs.Laws.{Bytes}
 use Rattle.stream.specs.Stream.{checkOf, seekOf}
 use Rattle.stream.specs.declared.SeekAnswer.{SeekAnswer}
 use Rattle.stream.specs.declared.CheckAnswer.{CheckAnswer}
@@ -20,6 +18,7 @@ use Rattle.book.specs.declared.LookupAnswer.{LookupAnswer}
 use Rattle.book.specs.declared.LookupAnswer.the-variants as lookup
 use Rattle.book_builder.specs.BookBuilder.{entriesIn, inRoom, buildAnswer, builtIn}
 use Rattle.book_builder.specs.declared.BuildAnswer.the-variants as build
+use Rattle.book_builder.proofs.Contracts.{Lent}
 use Rattle.book_builder.proofs.Same.{asSeek, lookup-is-seek}
 use Rattle.agreement.specs.Agreement.{likeRefusal, alike}
 
@@ -43,19 +42,20 @@ had-room l s n = go (checkOf s) (ltb (length l) (16 * length (entriesIn s))) ref
         by : build.Records (length (entriesIn s)) ≡ build.Records n → 16 * n ≤ length l
         by e = let m : n ≡ length (entriesIn s) = cc in omega (arith, m, ltb-false (length l) (16 * length (entriesIn s)) q)
 
--- s is what a slice lends: bytes, fewer than 2^64
-pub agrees : (s : List ℕ) → Bytes s → length s < 2 ^ 64 → (l : List ℕ) (n : ℕ) → buildAnswer l s ≡ build.Records n → (track field : ℕ)
-    → alike (lookupOf (take (16 * n) (builtIn l s)) track field) (seekOf s track field) ≡ true
-agrees s b small l n e track field = rw (← lookup-is-seek s b small l n e track field) (self-alike (lookupOf (take (16 * n) (builtIn l s)) track field))
+-- x is a stream that a slice lends
+pub agrees : (x : RefT (List ℕ)) → Lent x → (l : List ℕ) (n : ℕ) → buildAnswer l (x .now) ≡ build.Records n → (track field : ℕ)
+    → alike (lookupOf (take (16 * n) (builtIn l (x .now))) track field) (seekOf (x .now) track field) ≡ true
+agrees x lent l n e track field =
+    rw (← lookup-is-seek (x .now) (lent .known) (lent .room .0) l n e track field) (self-alike (lookupOf (take (16 * n) (builtIn l (x .now))) track field))
 
 -- as the bounds of a part have it
 pub less-0 : (n : ℕ) → n - 0 ≡ n
 less-0 n = omega arith
 
 -- so no two answers are unlike: what is known where `compare` finds them so
-pub never-two : {A : Type 0} (s : List ℕ) → Bytes s → length s < 2 ^ 64 → (l : List ℕ) (n : ℕ) → buildAnswer l s ≡ build.Records n → (track field : ℕ)
-    → (a : LookupAnswer) → a ≡ lookupOf (take (16 * n) (builtIn l s)) track field → (b : SeekAnswer) → b ≡ seekOf s track field → alike a b ≡ false → A
-never-two s b small l n e track field a p z q f = absurd (by (sym (rw (p, q) (agrees s b small l n e track field)) ∙ f))
+pub never-two : {A : Type 0} (x : RefT (List ℕ)) → Lent x → (l : List ℕ) (n : ℕ) → buildAnswer l (x .now) ≡ build.Records n → (track field : ℕ)
+    → (a : LookupAnswer) → a ≡ lookupOf (take (16 * n) (builtIn l (x .now))) track field → (b : SeekAnswer) → b ≡ seekOf (x .now) track field → alike a b ≡ false → A
+never-two x lent l n e track field a p b q f = absurd (by (sym (rw (p, q) (agrees x lent l n e track field)) ∙ f))
   where
     by : true ≡ false → ⊥
     by e = let z : _≡_ {A = ℕ} 0 1 = cc in omega arith

@@ -1,14 +1,6 @@
 use borrow.Author.Needs.{needs}
 use Rattle.agreement.proofs.compare.Statement.{statement}
 use Rattle.agreement.proofs.compare.Tie as tie
-use Rattle.agreement.proofs.compare.Reads as reads
-use Rattle.agreement.proofs.compare.Lts as lts
-use Rattle.agreement.proofs.is_alike.Reads as is-alike-reads
-use Rattle.book.proofs.lookup.Reads as lookup-reads
-use Rattle.book_builder.proofs.build.Reads as build-reads
-use Rattle.stream.proofs.seek.Reads as seek-reads
-use borrow.Author.Needs.{needs}
-use native.Mathlib.Omega.{arith}
 use native.Mathlib.Omega.{arith}
 use Prim.Native.Nat.{_*_}
 use mathlib.Core.Path.{sym, _∙_}
@@ -62,7 +54,7 @@ same-length-3 c = search needs
 returns-3 : tie.Need-returns-3
 returns-3 c =
     let a = c .before .before .before .before .before .before .before .before .before .before .before .before .before .before .before .args in
-    never-two (a .s .now) (c .before .before .before .before .before .before .before .before .before .before .before .before .before .shared-slice-known .given) (c .before .before .before .before .before .before .before .before .before .before .before .before .before .before .before .good .1 .0 .0) (a .out .now) _ (sym (c .before .before .before .before .before .before .before .before .before .before .before .build .ensures .0) ∙ c .before .before .before .before .before .before .before .n .given .1) (a .track) (a .field)
+    never-two (a .s) (record { room = c .before .before .before .before .before .before .before .before .before .before .before .before .before .before .before .good .1 .0; known = c .before .before .before .before .before .before .before .before .before .before .before .before .before .shared-slice-known .given }) (a .out .now) _ (sym (c .before .before .before .before .before .before .before .before .before .before .before .build .ensures .0) ∙ c .before .before .before .before .before .before .before .n .given .1) (a .track) (a .field)
     _ (c .before .before .before .lookup .ensures ∙ rw (c .before .before .before .before .before .before .before .before .before .before .before .build .ensures .1, less-0 (16 * c .before .before .before .before .before .before .before .n .given .0 .0))) _ (c .before .before .seek .ensures) (sym (c .before .is-alike .ensures) ∙ c .if1 .left)
 
 pub compare-spec : {M : Type 1} → statement M

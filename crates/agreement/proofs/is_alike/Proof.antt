@@ -1,12 +1,6 @@
 use borrow.Author.Needs.{needs}
 use Rattle.agreement.proofs.is_alike.Statement.{statement}
 use Rattle.agreement.proofs.is_alike.Tie as tie
-use Rattle.agreement.proofs.is_alike.Reads as reads
-use Rattle.agreement.proofs.is_alike.Lts as lts
-use Rattle.agreement.proofs.is_one.Reads as is-one-reads
-use borrow.Author.Needs.{needs}
-use native.Mathlib.Omega.{arith}
-use mathlib.Core.Path.{sym, _∙_}
 use Rattle.agreement.specs.Agreement.{alike}
 
 enum-known-a : tie.Need-enum-known-a

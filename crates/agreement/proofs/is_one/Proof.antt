@@ -1,10 +1,5 @@
 use Rattle.agreement.proofs.is_one.Statement.{statement}
 use Rattle.agreement.proofs.is_one.Tie as tie
-use Rattle.agreement.proofs.is_one.Reads as reads
-use Rattle.agreement.proofs.is_one.Lts as lts
-use borrow.Author.Needs.{needs}
-use native.Mathlib.Omega.{arith}
-use mathlib.Core.Path.{sym, _∙_}
 use borrow.Author.Tests.{eq-eqb, ne-eqb}
 use Rattle.agreement.specs.Agreement.{likeRefusal}
 
