@@ -39,7 +39,11 @@ mute = M ++ headed 0xFD 16 ++ headed 0xFB 16
 abbrev pub unnoted : List ℕ
 unnoted = M ++ carrying 0 ++ headed 0xFB 16
 
--- its book: two records of 16 bytes
+-- a list that no slice lends: the byte 256 makes the field number 2 ^ 32, which a record cuts to 0
+abbrev pub unlent : List ℕ
+unlent = M ++ headed 0xFD 16 ++ (headed 0xBF 32 ++ (10 ∷ 1 ∷ 256 ∷ 0 ∷ 0 ∷ 0 ∷ replicate 10 0)) ++ headed 0xFB 16
+
+-- the book of S: two records of 16 bytes
 abbrev pub B : List ℕ
 B =
     0x47 ∷ 0x58 ∷ 1 ∷ 10 ∷ 0 ∷ 0 ∷ 0 ∷ 0 ∷ 60 ∷ 0 ∷ 0 ∷ 0 ∷ 0 ∷ 0 ∷ 0 ∷ 0
@@ -98,3 +102,8 @@ computed =
       no-record = refl;
       cut = refl;
     }
+
+-- why `agree` of book_builder asks that the lent stream holds bytes: look-up and seek differ here
+pub bytes-needed : (builder.buildAnswer (room 16) unlent ≡ build.Records 1) × (book.lookupOf (builder.builtIn (room 16) unlent) 1 4294967296 ≡ lookup.Refused (refusal 16 0)) × (stream.seekOf unlent 1 4294967296 ≡ seek.At 60)
+unfolding headerAt sizedAt packetAt be knownType textOk items.split items.sectionOf items.sizeOf judge.formOf judge.isKnown judge.faultOf judge.countsAs judge.has judge.judgeItems judge.verdictOf tracks.split tracks.tracksOf tracks.trackVerdict tracks.endVerdict tracks.judgeTracks tracks.tracksVerdict tracks.isListed tracks.typesOf map.afterMaterial map.layoutOf map.bothVerdict map.sectionsVerdict map.mapVerdict map.typesIn media.preambleOf piece.contentOf piece.opens piece.pieceAt order.misplaced order.overdue order.unmapped order.eitherRole order.falls order.after order.ending order.stepOf stream.packetsFrom stream.packets stream.ranOut stream.judge stream.checkOf stream.carriesPiece stream.firstOf stream.seekOf leBytes builder.recorded builder.entriesHere builder.entriesOf builder.entriesIn builder.buildAnswer builder.builtIn book.recordBytes book.bytesOf le book.slotAt book.bookFrom book.bookOf book.risesAt book.stands book.judge book.firstIn book.lookupOf
+bytes-needed = (refl, refl, refl)
