@@ -1,5 +1,5 @@
 -- Two answers that are one are alike; a book that was built had room, and look-up in it and seek are alike.
-use Prim.Native.Nat.{ℕ, _-_, _*_, _≤_}
+use Prim.Native.Nat.{ℕ, _*_, _≤_}
 use mathlib.Core.Path.{_≡_, refl, sym, _∙_}
 use mathlib.Core.Bool.{Bool, true, false}
 use mathlib.Core.List.{List}
@@ -48,14 +48,10 @@ pub agrees : (x : RefT (List ℕ)) → Lent x → (l : List ℕ) (n : ℕ) → b
 agrees x lent l n e track field =
     rw (← lookup-is-seek (x .now) (lent .known) (lent .room .0) l n e track field) (self-alike (lookupOf (take (16 * n) (builtIn l (x .now))) track field))
 
--- as the bounds of a part have it
-pub less-0 : (n : ℕ) → n - 0 ≡ n
-less-0 n = omega arith
-
--- so no two answers are unlike: what is known where `compare` finds them so
-pub never-two : {A : Type 0} (x : RefT (List ℕ)) → Lent x → (l : List ℕ) (n : ℕ) → buildAnswer l (x .now) ≡ build.Records n → (track field : ℕ)
-    → (a : LookupAnswer) → a ≡ lookupOf (take (16 * n) (builtIn l (x .now))) track field → (b : SeekAnswer) → b ≡ seekOf (x .now) track field → alike a b ≡ false → A
-never-two x lent l n e track field a p b q f = absurd (by (sym (rw (p, q) (agrees x lent l n e track field)) ∙ f))
+-- so no two answers are unlike: what is known where `compare` finds them so, of a look-up in the first k bytes of the buffer o
+pub never-two : {A : Type 0} (x : RefT (List ℕ)) → Lent x → (l : List ℕ) (n : ℕ) → buildAnswer l (x .now) ≡ build.Records n → (track field k : ℕ) (o : List ℕ)
+    → (a : LookupAnswer) → a ≡ lookupOf (take k o) track field → o ≡ builtIn l (x .now) → (b : SeekAnswer) → b ≡ seekOf (x .now) track field → alike a b ≡ false → k ≡ 16 * n → A
+never-two x lent l n e track field k o a p built b q f whole = absurd (by (sym (rw (p, built, whole, q) (agrees x lent l n e track field)) ∙ f))
   where
     by : true ≡ false → ⊥
     by e = let z : _≡_ {A = ℕ} 0 1 = cc in omega arith

@@ -2,9 +2,9 @@ use borrow.Author.Needs.{needs}
 use Rattle.agreement.proofs.compare.Statement.{statement}
 use Rattle.agreement.proofs.compare.Tie as tie
 use native.Mathlib.Omega.{arith}
-use Prim.Native.Nat.{_*_}
+use Prim.Native.Nat.{_-_, _*_}
 use mathlib.Core.Path.{sym, _∙_}
-use Rattle.agreement.proofs.Laws.{had-room, less-0, never-two}
+use Rattle.agreement.proofs.Laws.{had-room, never-two}
 
 build-requires : tie.Need-build-requires
 build-requires c κs = search needs
@@ -54,8 +54,8 @@ same-length-3 c = search needs
 returns-3 : tie.Need-returns-3
 returns-3 c =
     let a = c .before .before .before .before .before .before .before .before .before .before .before .before .before .before .before .args in
-    never-two (a .s) (record { room = c .before .before .before .before .before .before .before .before .before .before .before .before .before .before .before .good .1 .0; known = c .before .before .before .before .before .before .before .before .before .before .before .before .before .shared-slice-known .given }) (a .out .now) _ (sym (c .before .before .before .before .before .before .before .before .before .before .before .build .ensures .0) ∙ c .before .before .before .before .before .before .before .n .given .1) (a .track) (a .field)
-    _ (c .before .before .before .lookup .ensures ∙ rw (c .before .before .before .before .before .before .before .before .before .before .before .build .ensures .1, less-0 (16 * c .before .before .before .before .before .before .before .n .given .0 .0))) _ (c .before .before .seek .ensures) (sym (c .before .is-alike .ensures) ∙ c .if1 .left)
+    never-two (a .s) (record { room = c .before .before .before .before .before .before .before .before .before .before .before .before .before .before .before .good .1 .0; known = c .before .before .before .before .before .before .before .before .before .before .before .before .before .shared-slice-known .given }) (a .out .now) (c .before .before .before .before .before .before .before .n .given .0 .0) (sym (c .before .before .before .before .before .before .before .before .before .before .before .build .ensures .0) ∙ c .before .before .before .before .before .before .before .n .given .1) (a .track) (a .field)
+    (16 * c .before .before .before .before .before .before .before .n .given .0 .0 - 0) _ _ (c .before .before .before .lookup .ensures) (c .before .before .before .before .before .before .before .before .before .before .before .build .ensures .1) _ (c .before .before .seek .ensures) (sym (c .before .is-alike .ensures) ∙ c .if1 .left) (omega arith)
 
 pub compare-spec : {M : Type 1} → statement M
 compare-spec =
