@@ -8,6 +8,7 @@ use contract.Lifetimes.{Lfts}
 use borrow.Fn.Kinds.{PK, RK, Out, endedOf, resT, Dens}
 use denote.Triple.Clauses.{AtExit}
 use denote.Ref.{RefT}
+use Rattle.plate.specs.Plate.{refusal}
 use Rattle.plate.specs.declared.Refusal.{Refusal}
 use Rattle.stream.specs.Stream as stream
 use Rattle.stream.specs.declared.CheckAnswer.{CheckAnswer}
@@ -63,7 +64,7 @@ use Rattle.mpeg.proofs.read.Reads as mpeg-reads
 use Rattle.parameter.specs.declared.ParameterValue.{ParameterValue}
 use Rattle.parameter.specs.declared.ParameterValue.the-variants as parameter-value
 use Rattle.bench.proofs.Table.{M}
-use Rattle.bench.proofs.Streams.{S, mute, B, room, carrying, computed}
+use Rattle.bench.proofs.Streams.{S, mute, unlent, B, room, carrying, computed, bytes-needed}
 use Rattle.bench.proofs.Pairs.{located, N, bare, other, pairs}
 use Rattle.mpeg.proofs.Worked.{text}
 
@@ -196,6 +197,11 @@ no-idle-build g = let e = ap firstByte (left-is (room 33) S (room 33) g ∙ comp
 
 pub no-constant-book : (o : List ℕ) → Leaves (room 33) S o → Leaves (room 31) S o → ⊥
 no-constant-book o g h = let e = ap firstByte (both (left-is (room 33) S o g ∙ computed .written) (left-is (room 31) S o h ∙ computed .untouched)) in omega arith
+
+-- of a list that no slice lends the three contracts allow two answers, so `agree` of book_builder needs what it asks of the lent stream
+pub two-without-bytes : Builds (room 16) unlent (build.Records 1) × Looks (builder.builtIn (room 16) unlent) 1 4294967296 (lookup.Refused (refusal 16 0)) × Seeks unlent 1 4294967296 (seek.At 60)
+two-without-bytes =
+    (rw (bytes-needed .0) at (build-gives (room 16) unlent), rw (bytes-needed .1) at (lookup-gives (builder.builtIn (room 16) unlent) 1 4294967296), rw (bytes-needed .2) at (seek-gives unlent 1 4294967296))
 
 -- `locator::read`: step and count of an FLT
 abbrev pub Tables : List ℕ → ℕ → LocatorAnswer → Type 0
