@@ -181,7 +181,7 @@ no-refusing-build r g = let e = build-is (room 33) S (build.Refused r) g ∙ com
 pub no-constant-build : (x : BuildAnswer) → Builds (room 33) S x → Builds (room 33) mute x → ⊥
 no-constant-build x g h = let e = both (build-is (room 33) S x g ∙ computed .two) (build-is (room 33) mute x h ∙ computed .none) in let z : _≡_ {A = ℕ} 2 0 = cc in omega arith
 
--- and what the buffer holds then: none writes nothing, and none writes one thing into all
+-- and what the buffer holds then: none writes nothing, and none writes one book for all streams
 abbrev pub Leaves : List ℕ → List ℕ → List ℕ → Type 0
 Leaves l s = Allows 2 build-kinds.ps build-kinds.r build-reads.Post (List ℕ) (λ κs a. (a .0 .now ≡ l) × (a .1 .0 .now ≡ s)) (λ κs x t. t .0 .now)
 
@@ -195,8 +195,8 @@ left-gives l s =
 pub no-idle-build : Leaves (room 33) S (room 33) → ⊥
 no-idle-build g = let e = ap firstByte (left-is (room 33) S (room 33) g ∙ computed .written) in omega arith
 
-pub no-constant-book : (o : List ℕ) → Leaves (room 33) S o → Leaves (room 31) S o → ⊥
-no-constant-book o g h = let e = ap firstByte (both (left-is (room 33) S o g ∙ computed .written) (left-is (room 31) S o h ∙ computed .untouched)) in omega arith
+pub no-constant-book : (o : List ℕ) → Leaves (room 33) S o → Leaves (room 33) mute o → ⊥
+no-constant-book o g h = let e = ap firstByte (both (left-is (room 33) S o g ∙ computed .written) (left-is (room 33) mute o h ∙ computed .mute-written)) in omega arith
 
 -- of a list that no slice lends the three contracts allow two answers, so `agree` of book_builder needs what it asks of the lent stream
 pub two-without-bytes : Builds (room 16) unlent (build.Records 1) × Looks (builder.builtIn (room 16) unlent) 1 4294967296 (lookup.Refused (refusal 16 0)) × Seeks unlent 1 4294967296 (seek.At 60)

@@ -70,8 +70,9 @@ pub record Computed : Type 0 where
   pub none : builder.buildAnswer (room 33) mute ≡ build.Records 0
   pub no-room : builder.buildAnswer (room 31) S ≡ build.Refused (refusal 13 0)
   pub not-built : builder.buildAnswer (room 33) unnoted ≡ build.Refused (refusal 21 76)
-  -- the buffer: the book, and the byte beyond it; untouched where the build is refused
+  -- the buffer: the book, and the byte beyond it; of a stream without media nothing, and untouched where the build is refused
   pub written : builder.builtIn (room 33) S ≡ B ++ (0xEE ∷ [])
+  pub mute-written : builder.builtIn (room 33) mute ≡ room 33
   pub untouched : builder.builtIn (room 31) S ≡ room 31
   -- look-up: what seek gives; 16, and 23 for the second record, cut
   pub record-0 : book.lookupOf B 1 0 ≡ lookup.At 60
@@ -96,6 +97,7 @@ computed =
       no-room = refl;
       not-built = refl;
       written = refl;
+      mute-written = refl;
       untouched = refl;
       record-0 = refl;
       record-1 = refl;
