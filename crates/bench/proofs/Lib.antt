@@ -1,2 +1,5 @@
 pub mod Cases
+pub mod Given
+pub mod Pairs
+pub mod Streams
 pub mod Table

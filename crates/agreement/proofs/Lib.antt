@@ -1,0 +1,3 @@
+pub mod Contract
+pub mod Laws
+pub mod Once

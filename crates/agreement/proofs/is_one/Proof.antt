@@ -1,0 +1,15 @@
+use Rattle.agreement.proofs.is_one.Statement.{statement}
+use Rattle.agreement.proofs.is_one.Tie as tie
+use borrow.Author.Tests.{eq-eqb, ne-eqb}
+use Rattle.agreement.specs.Agreement.{likeRefusal}
+
+returns : tie.Need-returns
+unfolding likeRefusal
+returns c = rw (eq-eqb _ _ (c .before .before .if1 .taken))
+
+returns-2 : tie.Need-returns-2
+unfolding likeRefusal
+returns-2 c = rw (ne-eqb _ _ (c .if1 .left))
+
+pub is-one-spec : {M : Type 1} → statement M
+is-one-spec = tie.close (tie.spec returns returns-2)
