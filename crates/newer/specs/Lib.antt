@@ -1,3 +1,4 @@
 pub mod Demand
 pub mod Functions
+pub mod Known
 pub mod Strike
