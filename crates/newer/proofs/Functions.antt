@@ -42,7 +42,7 @@ id-gives m id y g = rw (← g .bytes, ← g .track) (g .post)
 types-gives : (m : List ℕ) (t : Types) → TypesGives m t → t .kinds ≡ typesIn m
 types-gives m t g = rw (← g .bytes) (g .post)
 
-id-seen : (m : List ℕ) (id : ℕ) (xs : List Placed) → idSeen m (idOf id xs) ≡ ofId id (map (λ x. trackShown m (recordOf x)) xs)
+pub id-seen : (m : List ℕ) (id : ℕ) (xs : List Placed) → idSeen m (idOf id xs) ≡ ofId id (map (λ x. trackShown m (recordOf x)) xs)
 unfolding idOf ofId trackShown recordOf trackOf
 id-seen m id [] = refl
 id-seen m id (x ∷ xs) = go (eqb (x .track .id - 0xC0) id) (id-seen m id xs)

@@ -3,6 +3,7 @@ pub mod Demand
 pub mod Functions
 pub mod Items
 pub mod Known
+pub mod Names
 pub mod Outside
 pub mod Parts
 pub mod Tracks
