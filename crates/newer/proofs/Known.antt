@@ -13,7 +13,6 @@ use Rattle.media_type.specs.MediaType.{knownType}
 use Rattle.items.specs.Items.{Item}
 use Rattle.items.specs.Find.{found}
 use Rattle.items.specs.Judge.{formOf, isKnown, has}
-use Rattle.items.specs.declared.Section.the-variants as section
 use Rattle.items.specs.declared.Form.the-variants as form
 use Rattle.answer.specs.Answer.{valueOf, codeOf, allowed}
 use Rattle.answer.specs.declared.Value.the-variants as value
