@@ -26,17 +26,21 @@ pub extern "C" fn gxf_header(s: &[u8], at: usize) -> GxfPacket
 {
     match packet::header(s, at) {
         PacketAnswer::Whole(p) => {
+            let kind = p.kind as u64;
+            let len = p.len as u64;
             GxfPacket {
                 number: 0,
                 place: 0,
-                kind: p.kind as u64,
-                len: p.len as u64,
+                kind,
+                len,
             }
         }
         PacketAnswer::Refused(r) => {
+            let number = r.number as u64;
+            let place = r.place as u64;
             GxfPacket {
-                number: r.number as u64,
-                place: r.place as u64,
+                number,
+                place,
                 kind: 0,
                 len: 0,
             }

@@ -28,8 +28,7 @@ module _ (a m b : List ℕ) where
   unfolding s
   byte-there k h = getD-append-add a (m ++ b) k 0 ∙ List·getD-append m b 0 k h
 
-  part-there : part (length a) (length a + length m) s ≡ m
-  unfolding s
+  pub part-there : part (length a) (length a + length m) (a ++ (m ++ b)) ≡ m
   part-there = rw (add-sub-cancel-left, drop-append-seam a (m ++ b)) (take-append-seam m b)
 
   module _ (h : headerAt m 0 ≡ packet.Whole (record { kind = 0xBC; len = length m })) where
@@ -43,6 +42,10 @@ module _ (a m b : List ℕ) where
         let within : length m ≤ length s - length a = omega (arith, length-append a (m ++ b), length-append m b) in
         let kind : getD s (length a + 5) 0 ≡ 0xBC = byte-there 5 (omega (arith, g .least)) ∙ sym (g .kinds) in
         accepts s (length a) (length m) leader trailer long (g .least) (g .fours) within ∙ ap (λ (k : ℕ). packet.Whole (record { kind = k; len = length m })) kind
+
+    pub packet-there : packetAt (a ++ (m ++ b)) (length a) 0xBC ≡ packet.Whole (record { kind = 0xBC; len = length m })
+    unfolding packetAt s
+    packet-there = rw header-there
 
     module _ (v : mapVerdict m ≡ verdict.Accepted) where
       pub read-there : mapAt (a ++ (m ++ b)) (length a) ≡ answer.Says (record { count = length (listedIn m); material = materialSays m })

@@ -17,7 +17,7 @@ use Rattle.track_section.specs.declared.Kth.{Kth}
 use Rattle.track_section.specs.declared.Kth.the-variants as kth
 use Rattle.map.specs.Map.{mapVerdict, listedIn}
 use Rattle.map.proofs.Laws.{name-within}
-use Rattle.name.specs.Name.{ifAccepted, ifWhole, openedOf, unended, nameFrom, nameIn, orNotThere, inOpened, nameAt, orElse, inTwo, nameOfTwoAt}
+use Rattle.name.specs.Name.{ifAccepted, ifWhole, openedOf, unended, nameFrom, nameIn, orNotThere, inOpened, nameAt, orElse, inTwo, inClosing, inOpening, firstOf, nameOfTwoAt}
 use Rattle.name.specs.declared.Opened.{Opened}
 use Rattle.name.specs.declared.Opened.the-variants as opened
 use Rattle.name.specs.declared.NameAnswer.the-variants as name
@@ -70,6 +70,13 @@ place-within s id q m = go (openedOf s)
         by : (x : Part) → nameIn (take n s) id ≡ x → orNotThere x ≡ name.At q m → q + m ≤ length s
         by part.Absent f e = absurd (let z : _≡_ {A = ℕ} 0 1 = cc in omega arith)
         by (part.At a b) f e = let g : a ≡ q = cc in let h : b ≡ m = cc in omega (arith, in-front s n id a b f)
+
+-- of two: the rule in the code's steps
+pub two-in-steps : (c o : Part) → firstOf (inClosing c) (inOpening o) ≡ orElse c o
+unfolding firstOf inClosing inOpening
+two-in-steps (part.At q m) o = refl
+two-in-steps part.Absent (part.At q m) = refl
+two-in-steps part.Absent part.Absent = refl
 
 -- of two: where a name is said to stand, it does
 abbrev Inside : ℕ → ℕ → TwoAnswer → Type 0

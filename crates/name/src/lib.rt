@@ -8,7 +8,7 @@ ghost use mathlib.Core.Path.{_≡_};
 ghost use denote.Ref.{ptr};
 ghost use Prim.Native.Nat.{_≤_};
 ghost use lib.ListN.{length};
-ghost use Rattle.name.specs.Name.{openedOf, unended, nameIn, nameAt, nameBytes, placeIn, nameOfTwoAt, twoBytes, placeOfTwo};
+ghost use Rattle.name.specs.Name.{openedOf, unended, nameIn, nameAt, nameBytes, placeIn, inClosing, inOpening, firstOf, nameOfTwoAt, twoBytes, placeOfTwo};
 
 // The length of an accepted map packet at the start of lent bytes, or its refusal.
 pub enum Opened {
@@ -99,6 +99,37 @@ pub fn name(s: &[u8], id: usize) -> &[u8]
     }
 }
 
+// A name of the closing map, or 16.
+fn in_closing(name: Part) -> TwoAnswer
+    ensures { λ r. ⌜ r ≡ inClosing name ⌝ }
+{
+    match name {
+        Part::At(q, m) => TwoAnswer::Closing(q, m),
+        Part::Absent => TwoAnswer::Refused(plate::refuse(plate::NOT_THERE, 0)),
+    }
+}
+
+// A name of the opening map, or 16.
+fn in_opening(name: Part) -> TwoAnswer
+    ensures { λ r. ⌜ r ≡ inOpening name ⌝ }
+{
+    match name {
+        Part::At(q, m) => TwoAnswer::Opening(q, m),
+        Part::Absent => TwoAnswer::Refused(plate::refuse(plate::NOT_THERE, 0)),
+    }
+}
+
+// The first answer, or the second where that is a refusal.
+fn first_of(first: TwoAnswer, second: TwoAnswer) -> TwoAnswer
+    ensures { λ r. ⌜ r ≡ firstOf first second ⌝ }
+{
+    match first {
+        TwoAnswer::Opening(_, _) => first,
+        TwoAnswer::Closing(_, _) => first,
+        TwoAnswer::Refused(_) => second,
+    }
+}
+
 // Of an opening and a closing map: the closing map's name if it lists the track with one, null included, else the opening map's.
 pub fn name_place_of_two(opening: &[u8], closing: &[u8], id: usize) -> TwoAnswer
     ensures { λ r. ⌜ r ≡ nameOfTwoAt (now (opening .entry)) (now (closing .entry)) id ⌝ }
@@ -107,13 +138,11 @@ pub fn name_place_of_two(opening: &[u8], closing: &[u8], id: usize) -> TwoAnswer
         Opened::Refused(r) => TwoAnswer::Refused(r),
         Opened::Bytes(k) => match open_map(closing) {
             Opened::Refused(r) => TwoAnswer::Refused(r),
-            Opened::Bytes(n) => match name_in(&closing[..n], id) {
-                Part::At(q, m) => TwoAnswer::Closing(q, m),
-                Part::Absent => match name_in(&opening[..k], id) {
-                    Part::At(q, m) => TwoAnswer::Opening(q, m),
-                    Part::Absent => TwoAnswer::Refused(plate::refuse(plate::NOT_THERE, 0)),
-                },
-            },
+            Opened::Bytes(n) => {
+                let c = in_closing(name_in(&closing[..n], id));
+                let o = in_opening(name_in(&opening[..k], id));
+                first_of(c, o)
+            }
         },
     }
 }

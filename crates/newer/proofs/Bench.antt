@@ -30,6 +30,12 @@ use Rattle.map.specs.Said as said
 use Rattle.map.specs.declared.MapSays.{MapSays}
 use Rattle.map.specs.Map.{mapAt}
 use Rattle.bench.proofs.Table.{headed, upToRate, M, newer, reserved, saying}
+use Rattle.name.specs.declared.NameAnswer.{NameAnswer}
+use Rattle.answer.specs.declared.Track.{Track}
+use Rattle.plate.specs.Plate.{refusal}
+use Rattle.newer.specs.Known as known
+use Rattle.newer.specs.Known.{Clean, Leaves, Same, Kept}
+use Rattle.newer.specs.Names.{PlaceGives, NameSeen, named, nameSeen, NameAnswers}
 use Rattle.newer.specs.Strike as strike
 use Rattle.newer.specs.Strike.{inTrack, setIn}
 use Rattle.newer.specs.Demand.{Accepted, Alike, There, Unknown, Room}
@@ -39,9 +45,10 @@ use Rattle.map.specs.declared.MapAnswer.the-variants as map-answer
 use Rattle.map.specs.declared.TrackAnswer.{TrackAnswer}
 use Rattle.map.specs.declared.TrackAnswer.the-variants as track-answer
 use Rattle.plate.specs.declared.Refusal.{Refusal}
-use Rattle.newer.specs.Functions.{ReadGives, TrackGives, MapSeen, says, refused, mapSeen, TrackSeen, holds, trackSeen, kthSeen, Answers}
+use Rattle.newer.specs.Functions.{ReadGives, TrackGives, MapSeen, says, refused, mapSeen, TrackSeen, holds, trackSeen, kthSeen, ofId, FillGives, Fills, Answers}
 use Rattle.newer.proofs.Demand.{demand}
 use Rattle.newer.proofs.Functions.{answers}
+use Rattle.newer.proofs.Names.{names}
 
 -- the remainder of M with rate 9: M without a rate, and three pad bytes
 abbrev pub unrated : List ℕ
@@ -122,6 +129,33 @@ pub reserved-struck : strike.strike reserved ≡ unrated
 unfolding strike.strike strike.struck strike.struckTrack strike.kept strike.materialStays strike.trackStays strike.isReserved said.listedOf said.partsOf said.opened encode.encode encode.packetOf encode.front encode.sectionBytes encode.packetLength encode.padding encode.described beBytes be items.split items.sectionOf items.bytesOf judge.formOf judge.isKnown answer.valueOf answer.codeOf answer.allowed judge.has tracks.split tracks.tracksOf tracks.bytesOf tracks.isListed knownType map.layoutOf map.afterMaterial
 reserved-struck = refl
 
+-- the remainder M is clean and has all that is known of the map, which itself is not clean, nor is M with rate 9: striking nothing is shut out
+pub M-clean : Clean (said.partsOf M)
+M-clean = rw newer-struck at (demand .clean newer newer-accepted)
+
+pub newer-kept : Kept (said.partsOf newer) (said.partsOf M)
+newer-kept = rw newer-struck at (demand .kept newer newer-accepted)
+
+pub newer-unclean : Clean (said.partsOf newer) → ⊥
+unfolding known.knownItem known.meaningful said.partsOf said.opened be items.split items.sectionOf judge.has tracks.split tracks.tracksOf map.layoutOf map.afterMaterial
+newer-unclean c = never (sym (c .items .0 .1 .1 .0))
+
+pub reserved-unclean : Clean (said.partsOf reserved) → ⊥
+unfolding known.knownItem known.meaningful said.partsOf said.opened be items.split items.sectionOf judge.has tracks.split tracks.tracksOf map.layoutOf map.afterMaterial
+reserved-unclean c = never (sym (c .items .0 .1 .0))
+
+-- and so is striking what is known: the shortest map is clean, and lacks the first field of M
+not-left : (i : Item) (is : List Item) → known.knownMaterial i ≡ true → Leaves known.knownMaterial Same (i ∷ is) [] → ⊥
+not-left i is e (Leaves.goes q rest) = never (sym e ∙ q)
+
+pub shortest-clean : Clean (said.partsOf shortest)
+unfolding said.partsOf said.opened be items.split items.sectionOf tracks.split tracks.tracksOf map.layoutOf map.afterMaterial
+shortest-clean = record { material = tt; tracks = tt; items = tt }
+
+pub shortest-not-kept : Kept (said.partsOf M) (said.partsOf shortest) → ⊥
+unfolding known.knownMaterial said.partsOf said.opened be items.split items.sectionOf judge.has tracks.split tracks.tracksOf map.layoutOf map.afterMaterial
+shortest-not-kept k = not-left (record { tag = 0x41; value = 0 ∷ 0 ∷ 0 ∷ 0 ∷ [] }) [] refl (k .material)
+
 -- what M shows: first field 0, track 1, type 10, name A1, rate not available
 abbrev pub M-shows : Shown
 M-shows =
@@ -154,6 +188,29 @@ M-answers = rw (← M-shown) (answers M M-accepted)
 
 pub newer-answers : Answers newer M-shows
 newer-answers = rw (← M-shown, newer-alike .1) (answers newer newer-accepted)
+
+-- with no record lent `fill` refuses M with 13; with one or more it leaves the track's record first
+pub M-too-few : (zs : List Track) (r : MapAnswer) → FillGives M [] r zs → r ≡ map-answer.Refused (refusal 13 0)
+M-too-few zs r g = M-answers .too-few [] zs r g (omega arith) .0
+
+pub M-filled : (y : Track) (ys zs : List Track) (r : MapAnswer) → FillGives M (y ∷ ys) r zs → Fills M M-shows (y ∷ ys) r zs
+M-filled y ys zs r g = M-answers .fill (y ∷ ys) zs r g (omega arith)
+
+-- the name of track 1 is A1, without its 00, on M and with `7E 01 55`; of track 2 there is none: 16
+pub M-names : NameAnswers M M-shows × NameAnswers newer M-shows
+M-names = (rw (← M-shown) (names .one-answer M M-accepted .0), rw (← M-shown, newer-alike .1) (names .one-answer newer newer-accepted .0))
+
+pub M-name : (x : NameAnswer) → PlaceGives M 1 x → nameSeen M x ≡ named (0x41 ∷ 0x31 ∷ [])
+unfolding ofId
+M-name x g = M-names .0 .place 1 x g
+
+pub newer-name : (x : NameAnswer) → PlaceGives newer 1 x → nameSeen newer x ≡ named (0x41 ∷ 0x31 ∷ [])
+unfolding ofId
+newer-name x g = M-names .1 .place 1 x g
+
+pub M-no-name : (x : NameAnswer) → PlaceGives M 2 x → nameSeen M x ≡ NameSeen.refused (refusal 16 0)
+unfolding ofId
+M-no-name x g = M-names .0 .place 2 x g
 
 shortest-count : shownIn shortest .count ≡ 0
 unfolding be knownType items.split items.sectionOf find.find answer.valueOf answer.allowed answer.codeOf answer.isNull answer.materialOf answer.trackOf judge.has tracks.split tracks.tracksOf tracks.isListed tracks.listed tracks.recordOf map.afterMaterial map.layoutOf map.materialSays map.listedIn shown.materialShown shown.trackShown shown.shownIn

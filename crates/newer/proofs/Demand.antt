@@ -8,8 +8,10 @@ use Rattle.map.specs.Encode.{MapParts, encode}
 use Rattle.map.specs.Said.{partsOf}
 use Rattle.map.proofs.Encoded.{Fit, parts-of-encoded}
 use Rattle.map.proofs.Said.{shown-said, shown-encoded}
+use Rattle.newer.specs.Known.{Clean, Kept}
 use Rattle.newer.specs.Strike.{struck, strike, Boundary, setInParts, setIn}
 use Rattle.newer.specs.Demand.{Accepted, Alike, There, Unknown, Room, Demand}
+use Rattle.newer.proofs.Known.{struck-clean, struck-kept}
 use Rattle.newer.proofs.Parts.{struck-good, struck-fit, struck-said, struck-again, struck-set, set-parts-good, struck-parts-bytes, set-parts-bytes, encoded-accepted, fit-parts, good-parts, byte-parts, set-fit, room-asked}
 
 module _ (m : List ℕ) (h : Accepted m) where
@@ -29,6 +31,12 @@ module _ (m : List ℕ) (h : Accepted m) where
   pub remainder-parts : partsOf (strike m) ≡ struck (partsOf m)
   unfolding strike
   remainder-parts = parts-of-encoded (struck (partsOf m)) rest-fit
+
+  pub remainder-clean : Clean (partsOf (strike m))
+  remainder-clean = rw remainder-parts (struck-clean (partsOf m))
+
+  pub remainder-kept : Kept (partsOf m) (partsOf (strike m))
+  remainder-kept = rw remainder-parts (struck-kept (partsOf m))
 
   pub strike-twice : strike (strike m) ≡ strike m
   unfolding strike
@@ -70,6 +78,8 @@ demand =
     record {
       accepted = remainder-accepted;
       rest = remainder-parts;
+      clean = remainder-clean;
+      kept = remainder-kept;
       one-answer = remainder-alike;
       same-remainder = same-alike;
       set-in = set-in-alike;

@@ -1,6 +1,6 @@
 -- The proof of demand 3 through the functions: specs/Functions.antt has the statements.
-use Prim.Native.Nat.{ℕ, zero, suc, _+_, _-_}
-use mathlib.Core.Path.{_≡_, refl, _∙_}
+use Prim.Native.Nat.{ℕ, zero, suc, _+_, _-_, _<_, _≤_}
+use mathlib.Core.Path.{_≡_, refl, ap, subst, _∙_}
 use mathlib.Core.Bool.{Bool, true, false}
 use mathlib.Core.List.{List, [], _∷_, _++_, map}
 use lib.ListN.{length, set, replicate}
@@ -10,16 +10,21 @@ use Rattle.track_section.specs.Tracks.{Description, Placed, isListed, listed, r
 use Rattle.track_section.specs.declared.Kth.{Kth}
 use Rattle.track_section.specs.declared.Kth.the-variants as kth
 use Rattle.track_section.specs.declared.Types.{Types}
+use Rattle.plate.specs.Plate.{refusal}
 use Rattle.answer.specs.Answer.{trackOf}
-use Rattle.map.specs.Map.{onKth, listedIn, typesIn, mapAt, trackAt}
+use Rattle.answer.specs.declared.Track.{Track}
+use Rattle.map.specs.Map.{onKth, materialSays, listedIn, typesIn, mapAt, trackAt}
 use Rattle.map.specs.Shown.{trackShown, shownIn}
 use Rattle.map.specs.declared.MapAnswer.{MapAnswer}
+use Rattle.map.specs.declared.MapAnswer.the-variants as answer
 use Rattle.map.specs.declared.TrackAnswer.{TrackAnswer}
 use Rattle.newer.specs.Strike.{strike, setIn}
 use Rattle.newer.specs.Demand.{Accepted}
-use Rattle.newer.specs.Functions.{ReadGives, TrackGives, trackSeen, kthSeen, IdGives, TypesGives, IdSeen, idSeen, ofId, typesSeen, Answers, Functions}
+use Rattle.newer.specs.Functions.{ReadGives, TrackGives, trackSeen, kthSeen, IdGives, TypesGives, IdSeen, idSeen, ofId, typesSeen, FillGives, Fills, Answers, Functions}
 use Rattle.newer.proofs.Parts.{accepted-verdict, accepted-header}
-use Rattle.map.proofs.Within.{read-there, track-there}
+use Rattle.map.proofs.Within.{part-there, packet-there, read-there, track-there}
+use Rattle.tracks.specs.Fill.{recordsAt, answerFor, Filled}
+use Rattle.tracks.proofs.Kept.{refused-stays, too-few, enough, beyond-stays, first-records}
 use Rattle.newer.proofs.Demand.{remainder-accepted, remainder-alike, set-in-alike}
 
 -- what the contracts allow is what the definitions give
@@ -42,7 +47,7 @@ id-gives m id y g = rw (← g .bytes, ← g .track) (g .post)
 types-gives : (m : List ℕ) (t : Types) → TypesGives m t → t .kinds ≡ typesIn m
 types-gives m t g = rw (← g .bytes) (g .post)
 
-id-seen : (m : List ℕ) (id : ℕ) (xs : List Placed) → idSeen m (idOf id xs) ≡ ofId id (map (λ x. trackShown m (recordOf x)) xs)
+pub id-seen : (m : List ℕ) (id : ℕ) (xs : List Placed) → idSeen m (idOf id xs) ≡ ofId id (map (λ x. trackShown m (recordOf x)) xs)
 unfolding idOf ofId trackShown recordOf trackOf
 id-seen m id [] = refl
 id-seen m id (x ∷ xs) = go (eqb (x .track .id - 0xC0) id) (id-seen m id xs)
@@ -67,6 +72,46 @@ types-shown : (m : List ℕ) → typesIn m ≡ typesSeen (replicate 64 0) (map (
 unfolding typesIn listedIn
 types-shown m = types-seen m _ (replicate 64 0) _
 
+-- a filling call
+records-shown : (m : List ℕ) (xs : List Placed) → map (trackShown m) (map recordOf xs) ≡ map (λ x. trackShown m (recordOf x)) xs
+records-shown m [] = refl
+records-shown m (x ∷ xs) = rw (records-shown m xs)
+
+module _ (m : List ℕ) (h : Accepted m) where
+  says-there : (a b : List ℕ) → mapAt (a ++ (m ++ b)) (length a) ≡ answer.Says (record { count = length (listedIn m); material = materialSays m })
+  says-there a b = read-there a m b (accepted-header m h) (accepted-verdict m h)
+
+  records-there : (a b : List ℕ) → recordsAt (a ++ (m ++ b)) (length a) ≡ map recordOf (listedIn m)
+  unfolding recordsAt
+  records-there a b = rw (packet-there a m b (accepted-header m h), part-there a m b)
+
+  module _ (ys zs : List Track) (r : MapAnswer) (g : FillGives m ys r zs) where
+    abbrev s : List ℕ
+    s = g .before ++ (m ++ g .after)
+
+    abbrev at : ℕ
+    at = length (g .before)
+
+    gives : r ≡ answerFor s at (length ys)
+    unfolding Filled
+    gives = g .filled .0
+
+    short-call : length ys < length (listedIn m) → (r ≡ answer.Refused (refusal 13 0)) × (zs ≡ ys)
+    short-call k =
+        let e : r ≡ answer.Refused (refusal 13 0) = gives ∙ too-few s at (length ys) _ (says-there (g .before) (g .after)) k in
+        (e, refused-stays ys s at (refusal 13 0) zs (subst (λ (x : MapAnswer). Filled ys s at x zs) e (g .filled)))
+
+    full-call : length (listedIn m) ≤ length ys → Fills m (shownIn m) ys r zs
+    unfolding shownIn
+    full-call k =
+        let e : r ≡ answer.Says (record { count = length (listedIn m); material = materialSays m }) = gives ∙ enough s at (length ys) _ (says-there (g .before) (g .after)) k in
+        let f = subst (λ (x : MapAnswer). Filled ys s at x zs) e (g .filled) in
+        record {
+          answers = rw e;
+          first = ap (λ (ts : List Track). map (trackShown m) ts) (first-records ys s at _ zs f ∙ records-there (g .before) (g .after)) ∙ records-shown m (listedIn m);
+          beyond = beyond-stays ys s at _ zs f;
+        }
+
 -- on an accepted map the functions give what the map shows
 pub answers : (m : List ℕ) → Accepted m → Answers m (shownIn m)
 unfolding shownIn
@@ -76,6 +121,8 @@ answers m h =
       track = λ k y g. rw (track-gives m k y g ∙ track-there (g .before) m (g .after) (accepted-header m h) (accepted-verdict m h) k) (kth-seen m k (listedIn m));
       by-id = λ id y g. rw (id-gives m id y g) (id-seen m id (listedIn m));
       types = λ t g. types-gives m t g ∙ types-shown m;
+      too-few = short-call m h;
+      fill = full-call m h;
     }
 
 pub functions : Functions

@@ -2,6 +2,8 @@ pub mod Bench
 pub mod Demand
 pub mod Functions
 pub mod Items
+pub mod Known
+pub mod Names
 pub mod Outside
 pub mod Parts
 pub mod Tracks

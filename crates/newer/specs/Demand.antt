@@ -14,6 +14,7 @@ use Rattle.map.specs.declared.MapSays.{MapSays}
 use Rattle.map.specs.declared.MapAnswer.the-variants.{Says}
 use Rattle.map.specs.Shown.{shownIn}
 use Rattle.map.specs.Said.{partsOf}
+use Rattle.newer.specs.Known.{Clean, Kept}
 use Rattle.newer.specs.Strike.{struck, strike, Boundary, inMaterial, inTrack, setIn, setInParts}
 
 -- each of them is a byte
@@ -59,6 +60,9 @@ pub record Demand : Type 0 where
   -- 1. the remainder is accepted; its parts are the map's, less what is struck
   pub accepted : (m : List ℕ) → Accepted m → Accepted (strike m)
   pub rest : (m : List ℕ) → Accepted m → partsOf (strike m) ≡ struck (partsOf m)
+  -- nothing of the remainder is unknown, reserved or of unknown type; all else of the map is in it, in order
+  pub clean : (m : List ℕ) → Accepted m → Clean (partsOf (strike m))
+  pub kept : (m : List ℕ) → Accepted m → Kept (partsOf m) (partsOf (strike m))
   -- 2. map and remainder get the one answer
   pub one-answer : (m : List ℕ) → Accepted m → Alike m (strike m)
   -- 3. so two accepted maps with the same remainder answer alike

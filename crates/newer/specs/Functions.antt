@@ -1,8 +1,8 @@
--- Demand 3 through the functions of `map`: `read`, `track`, `id_of` and `types_of`, over their contracts as the checker reads them (`Reads.Post`). Proved in proofs/Functions.antt.
-use Prim.Native.Nat.{ℕ, zero, suc}
+-- Demand 3 through the functions of `map`: `read`, `track`, `id_of` and `types_of`, over their contracts as the checker reads them (`Reads.Post`), and through `tracks::fill`. Proved in proofs/Functions.antt.
+use Prim.Native.Nat.{ℕ, zero, suc, _<_, _≤_}
 use mathlib.Core.Path.{_≡_}
-use mathlib.Core.List.{List, [], _∷_, _++_}
-use lib.ListN.{length, set, replicate}
+use mathlib.Core.List.{List, [], _∷_, _++_, map as each}
+use lib.ListN.{length, take, drop, set, replicate}
 use lib.Dec.{eqb}
 use Rattle.plate.specs.Choice.{pick}
 use contract.Lifetimes.{Lfts}
@@ -11,6 +11,7 @@ use denote.Triple.Clauses.{AtExit}
 use Rattle.plate.specs.Plate.{refusal}
 use Rattle.plate.specs.declared.Refusal.{Refusal}
 use Rattle.items.specs.Items.{Item}
+use Rattle.answer.specs.declared.Track.{Track}
 use Rattle.track_section.specs.declared.Kth.{Kth}
 use Rattle.track_section.specs.declared.Kth.the-variants as kth
 use Rattle.track_section.specs.declared.Types.{Types}
@@ -27,6 +28,7 @@ use Rattle.map.proofs.id_of.Kinds as id-kinds
 use Rattle.map.proofs.id_of.Reads as id-reads
 use Rattle.map.proofs.types_of.Kinds as types-kinds
 use Rattle.map.proofs.types_of.Reads as types-reads
+use Rattle.tracks.specs.Fill.{Filled}
 use Rattle.newer.specs.Strike.{strike, Boundary, setIn}
 use Rattle.newer.specs.Demand.{Accepted, There, Unknown, Room}
 
@@ -70,6 +72,12 @@ pub record TypesGives (m : List ℕ) (t : Types) : Type 0 where
   pub bytes : arguments .0 .now ≡ m
   pub post : types-reads.Post lifetimes arguments t exit
 
+-- a call of `tracks::fill` on the lent records ys, where the packet m stands, gave r and left zs; its contract is the definition `Filled`
+pub record FillGives (m : List ℕ) (ys : List Track) (r : MapAnswer) (zs : List Track) : Type 0 where
+  pub before : List ℕ
+  pub after : List ℕ
+  pub filled : Filled ys (before ++ (m ++ after)) (length before) r zs
+
 -- an outcome, with the bytes that its places point at for the places
 pub data MapSeen : Type 0 where
   says : ℕ → MaterialShown → MapSeen
@@ -111,12 +119,21 @@ unfoldable pub typesSeen : List ℕ → List TrackShown → List ℕ
 typesSeen types [] = types
 typesSeen types (t ∷ ts) = typesSeen (set types (t .id) (t .kind)) ts
 
+-- a call that is given room leaves the answer's records first, and those past the last as they were
+pub record Fills (m : List ℕ) (answer : Shown) (ys : List Track) (r : MapAnswer) (zs : List Track) : Type 0 where
+  pub answers : mapSeen m r ≡ says (answer .count) (answer .material)
+  pub first : each (trackShown m) (take (answer .count) zs) ≡ answer .tracks
+  pub beyond : drop (answer .count) zs ≡ drop (answer .count) ys
+
 -- whatever the functions give on m is the one answer; that they give one, and not one for all maps, is shown on M and others in proofs/Bench.antt
 pub record Answers (m : List ℕ) (answer : Shown) : Type 0 where
   pub read : (x : MapAnswer) → ReadGives m x → mapSeen m x ≡ says (answer .count) (answer .material)
   pub track : (k : ℕ) (y : TrackAnswer) → TrackGives m k y → trackSeen m y ≡ kthSeen k (answer .tracks)
   pub by-id : (id : ℕ) (y : Kth) → IdGives m id y → idSeen m y ≡ ofId id (answer .tracks)
   pub types : (t : Types) → TypesGives m t → t .kinds ≡ typesSeen (replicate 64 0) (answer .tracks)
+  -- 13 where fewer records are lent than the answer has tracks, and every record as it was; nowhere else
+  pub too-few : (ys zs : List Track) (r : MapAnswer) → FillGives m ys r zs → length ys < answer .count → (r ≡ map.Refused (refusal 13 0)) × (zs ≡ ys)
+  pub fill : (ys zs : List Track) (r : MapAnswer) → FillGives m ys r zs → answer .count ≤ length ys → Fills m answer ys r zs
 
 pub record Functions : Type 0 where
   -- on an accepted map, and on its remainder

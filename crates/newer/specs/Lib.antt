@@ -1,3 +1,5 @@
 pub mod Demand
 pub mod Functions
+pub mod Known
+pub mod Names
 pub mod Strike

@@ -4,7 +4,7 @@ use mathlib.Core.Path.{_≡_, refl, sym, ap, _∙_}
 use mathlib.Core.Bool.{Bool, true, false}
 use mathlib.Core.List.{List, [], _∷_, _++_, map as each}
 use native.Mathlib.Omega.{arith}
-use lib.ListN.{length, getD, drop}
+use lib.ListN.{length, getD, take, drop}
 use lib.Dec.{ltb}
 use lib.Seq.{take-append-seam, drop-append-seam, getD-take}
 use borrow.Author.Tests.{ltb-false, lt-ltb, le-ltb, ltb-true}
@@ -101,6 +101,10 @@ module _ (ys : List Track) (s : List ℕ) (at : ℕ) (m : MapSays) (zs : List Tr
   -- records past the last listed track stay
   pub beyond-stays : drop (m .count) zs ≡ drop (m .count) ys
   beyond-stays = rw (first-listed, count-listed .0) (drop-append-seam (recordsAt s at) _)
+
+  -- the first are the records of the listed tracks
+  pub first-records : take (m .count) zs ≡ recordsAt s at
+  first-records = rw (first-listed, count-listed .0) (take-append-seam (recordsAt s at) _)
 
   record-in : (k : ℕ) → k < m .count → getD zs k blank ≡ getD (recordsAt s at) k blank
   record-in k h =

@@ -5,6 +5,7 @@ use answer::Track;
 use answer::Value;
 use items::Part;
 use map::MapAnswer;
+use map::MapSays;
 use packet::PacketAnswer;
 use track_section::Kth;
 ghost use mathlib.Core.Path.{_≡_};
@@ -19,10 +20,11 @@ fn answer_for(s: &[u8], at: usize, room: usize) -> MapAnswer
         MapAnswer::Refused(r) => MapAnswer::Refused(r),
         MapAnswer::Says(m) => {
             let count = m.count;
+            let material = m.material;
             if room < count {
                 return MapAnswer::Refused(plate::refuse(plate::ROOM, 0));
             }
-            MapAnswer::Says(m)
+            MapAnswer::Says(MapSays { count, material })
         }
     }
 }

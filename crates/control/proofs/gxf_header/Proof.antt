@@ -10,14 +10,14 @@ header-requires c κs = search needs
 enum-known-p : tie.Need-enum-known-p
 enum-known-p c = search needs
 
-cast-t7 : tie.Need-cast-t7
-cast-t7 c = search needs
+cast-kind : tie.Need-cast-kind
+cast-kind c = search needs
 
 enum-known-r : tie.Need-enum-known-r
 enum-known-r c = search needs
 
-cast-t9 : tie.Need-cast-t9
-cast-t9 c = search needs
+cast-number : tie.Need-cast-number
+cast-number c = search needs
 
 returns : tie.Need-returns
 unfolding headerForC
@@ -30,4 +30,4 @@ returns-2 c = simp (sym (c .before .before .before .before .header .ensures) ∙
 pub gxf-header-spec : {M : Type 1} → statement M
 gxf-header-spec =
     tie.close
-    (tie.spec header-requires enum-known-p cast-t7 enum-known-r cast-t9 returns returns-2)
+    (tie.spec header-requires enum-known-p cast-kind enum-known-r cast-number returns returns-2)

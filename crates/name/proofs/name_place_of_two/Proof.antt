@@ -4,7 +4,7 @@ use Rattle.name.proofs.name_place_of_two.Tie as tie
 use mathlib.Core.Path.{sym, _∙_}
 use lib.Seq.{length-take-le}
 use Rattle.name.specs.Name.{nameOfTwoAt}
-use Rattle.name.proofs.Laws.{opened-within}
+use Rattle.name.proofs.Laws.{opened-within, two-in-steps}
 
 open-map-requires : tie.Need-open-map-requires
 open-map-requires c κs = search needs
@@ -30,26 +30,20 @@ slice-aggregate-name-in c = sym (length-take-le _ _ (opened-within _ _ (sym (c .
 name-in-requires : tie.Need-name-in-requires
 name-in-requires c κs = search needs
 
-enum-known-q : tie.Need-enum-known-q
-enum-known-q c = search needs
-
-enum-told : tie.Need-enum-told
-enum-told c = search needs
+in-closing-requires : tie.Need-in-closing-requires
+in-closing-requires c κs = search needs
 
 slice-aggregate-name-in-2 : tie.Need-slice-aggregate-name-in-2
-slice-aggregate-name-in-2 c = sym (length-take-le _ _ (opened-within _ _ (sym (c .before .before .before .before .before .before .before .before .before .before .before .before .open-map .ensures) ∙ c .before .before .before .before .before .before .before .before .before .before .k .given .1)))
+slice-aggregate-name-in-2 c = sym (length-take-le _ _ (opened-within _ _ (sym (c .before .before .before .before .before .before .before .before .before .before .before .open-map .ensures) ∙ c .before .before .before .before .before .before .before .before .before .k .given .1)))
 
 name-in-requires-2 : tie.Need-name-in-requires-2
 name-in-requires-2 c κs = search needs
 
-enum-known-q-2 : tie.Need-enum-known-q-2
-enum-known-q-2 c = search needs
+in-opening-requires : tie.Need-in-opening-requires
+in-opening-requires c κs = search needs
 
-enum-told-2 : tie.Need-enum-told-2
-enum-told-2 c = search needs
-
-refuse-requires : tie.Need-refuse-requires
-refuse-requires c κs = search needs
+first-of-requires : tie.Need-first-of-requires
+first-of-requires c κs = search needs
 
 returns : tie.Need-returns
 unfolding nameOfTwoAt
@@ -62,28 +56,15 @@ returns-2 c = rw (sym (c .before .before .before .before .before .before .before
 returns-3 : tie.Need-returns-3
 unfolding nameOfTwoAt
 returns-3 c =
-    rw (sym (c .before .before .before .before .before .before .before .before .before .before .before .before .open-map .ensures) ∙ c .before .before .before .before .before .before .before .before .before .before .k .given .1, sym (c .before .before .before .before .before .before .before .before .open-map2 .ensures) ∙ c .before .before .before .before .before .before .n .given .1, sym (c .before .before .before .name-in .ensures) ∙ c .before .q .given .1)
-
-returns-4 : tie.Need-returns-4
-unfolding nameOfTwoAt
-returns-4 c =
     rw (
-      sym (c .before .before .before .before .before .before .before .before .before .before .before .before .before .before .before .before .open-map .ensures) ∙ c .before .before .before .before .before .before .before .before .before .before .before .before .before .before .k .given .1,
-      sym (c .before .before .before .before .before .before .before .before .before .before .before .before .open-map2 .ensures) ∙ c .before .before .before .before .before .before .before .before .before .before .n .given .1,
-      sym (c .before .before .before .before .before .before .before .name-in .ensures) ∙ c .before .before .before .before .before .enum-told .given .1,
-      sym (c .before .before .before .name-in2 .ensures) ∙ c .before .q2 .given .1,
-    )
-
-returns-5 : tie.Need-returns-5
-unfolding nameOfTwoAt
-returns-5 c =
-    rw (
-      sym (c .before .before .before .before .before .before .before .before .before .before .before .before .before .before .before .before .open-map .ensures) ∙ c .before .before .before .before .before .before .before .before .before .before .before .before .before .before .k .given .1,
-      sym (c .before .before .before .before .before .before .before .before .before .before .before .before .open-map2 .ensures) ∙ c .before .before .before .before .before .before .before .before .before .before .n .given .1,
-      sym (c .before .before .before .before .before .before .before .name-in .ensures) ∙ c .before .before .before .before .before .enum-told .given .1,
-      sym (c .before .before .before .name-in2 .ensures) ∙ c .before .enum-told2 .given .1,
-      c .refuse .ensures,
-    )
+      sym (c .before .before .before .before .before .before .before .before .before .before .before .before .before .before .open-map .ensures) ∙ c .before .before .before .before .before .before .before .before .before .before .before .before .k .given .1,
+      sym (c .before .before .before .before .before .before .before .before .before .before .open-map2 .ensures) ∙ c .before .before .before .before .before .before .before .before .n .given .1,
+      c .first-of .ensures,
+      c .before .before .before .before .in-closing .ensures,
+      c .before .in-opening .ensures,
+      c .before .before .before .before .before .name-in .ensures,
+      c .before .before .name-in2 .ensures,
+    ) (two-in-steps _ _)
 
 pub name-place-of-two-spec : {M : Type 1} → statement M
 name-place-of-two-spec =
@@ -97,15 +78,11 @@ name-place-of-two-spec =
     enum-known-n
     slice-aggregate-name-in
     name-in-requires
-    enum-known-q
-    enum-told
+    in-closing-requires
     slice-aggregate-name-in-2
     name-in-requires-2
-    enum-known-q-2
-    enum-told-2
-    refuse-requires
+    in-opening-requires
+    first-of-requires
     returns
     returns-2
-    returns-3
-    returns-4
-    returns-5)
+    returns-3)

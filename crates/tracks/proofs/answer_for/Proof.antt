@@ -19,7 +19,7 @@ refuse-requires c κs = search needs
 
 returns : tie.Need-returns
 unfolding answerFor
-returns c = simp (sym (c .before .before .before .before .before .read .ensures) ∙ c .before .before .before .m .given .1, lt-ltb _ _ (c .before .if1 .taken), c .refuse .ensures)
+returns c = simp (sym (c .before .before .before .before .before .before .read .ensures) ∙ c .before .before .before .before .m .given .1, lt-ltb _ _ (c .before .if1 .taken), c .refuse .ensures)
 
 returns-2 : tie.Need-returns-2
 unfolding answerFor
@@ -27,7 +27,7 @@ returns-2 c = simp (sym (c .before .before .before .read .ensures) ∙ c .before
 
 returns-3 : tie.Need-returns-3
 unfolding answerFor
-returns-3 c = simp (sym (c .before .before .before .before .read .ensures) ∙ c .before .before .m .given .1, le-ltb _ _ (c .if1 .left))
+returns-3 c = simp (sym (c .before .before .before .before .before .read .ensures) ∙ c .before .before .before .m .given .1, le-ltb _ _ (c .if1 .left))
 
 pub answer-for-spec : {M : Type 1} → statement M
 answer-for-spec =
