@@ -1,4 +1,3 @@
-pub mod Ids
 pub mod Judged
 pub mod Laws
 pub mod Once

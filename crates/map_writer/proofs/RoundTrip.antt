@@ -26,10 +26,12 @@ use Rattle.map.proofs.Within.{read-there, track-there}
 use Rattle.packet_writer.specs.Write.{refused}
 use Rattle.packet_writer.specs.declared.WriteAnswer.the-variants.{Length, Refused}
 use Rattle.packet_writer.proofs.Laws.{framed}
-use Rattle.map_writer.specs.Given.{tracksGiven}
+use Rattle.map_given.specs.Given.{tracksGiven}
 use Rattle.map_writer.specs.Told.{told}
-use Rattle.map_writer.specs.Write.{partsOf, partsOfTrack, packetOf, faultOf, materialLength, tracksLength, writeOf, written}
-use Rattle.map_writer.proofs.Packet.{Clean, clean, material-size, material-short}
+use Rattle.map_writer.specs.Write.{partsOf, partsOfTrack, packetOf, materialLength, tracksLength, writeOf, written}
+use Rattle.map_given.specs.Faults.{faultOf}
+use Rattle.map_given.proofs.Clean.{Clean, clean}
+use Rattle.map_writer.proofs.Packet.{material-size, material-short}
 use Rattle.map_writer.proofs.Told.{parts-told}
 use Rattle.map_writer.proofs.Judged.{parts-good}
 use contract.Lifetimes.{Lfts}

@@ -1,4 +1,3 @@
-pub mod Given
 pub mod Sizes
 pub mod Told
 pub mod Write
