@@ -8,6 +8,7 @@ ghost use lib.Dec.{leb, eqb};
 ghost use lib.ListN.{length, getD, replicate};
 ghost use Rattle.text.specs.Text.{textOk};
 ghost use Rattle.map_given.specs.Given.{slotAt, slots, trackAt, tracksGiven};
+ghost use Rattle.map_given.specs.Places.{materialPlaces, trackPlaces};
 ghost use Rattle.map_given.specs.Faults.{isText, codeFits, fits, barred, slotFault, graver, slotsFault, ownFault, tracksFault, idsFault, faultOf};
 ghost use Rattle.map_given.specs.Flags.{flagFault, flagged};
 
@@ -51,6 +52,39 @@ pub const RATE: usize = 14;
 pub const LINES: usize = 17;
 
 pub const FIELDS: usize = 20;
+
+// The places above.
+struct Words {
+    material: [usize; 6],
+    track: [usize; 9],
+}
+
+// What ties the places above to the definitions; nothing calls it. PRESENT and the records' lengths are tied by `slot_fault` and `fault`.
+fn tied() -> Words
+    ensures { λ r. ⌜ (r .material ≡ materialPlaces) × (r .track ≡ trackPlaces) ⌝ }
+{
+    Words {
+        material: [
+            MATERIAL_NAME,
+            FIRST_FIELD,
+            LAST_FIELD,
+            MARK_IN,
+            MARK_OUT,
+            SIZE,
+        ],
+        track: [
+            TYPE,
+            ID,
+            NAME,
+            AUXILIARY,
+            VERSION,
+            MPEG,
+            RATE,
+            LINES,
+            FIELDS,
+        ],
+    }
+}
 
 // A slot, and the tag that it is for.
 pub struct Slot {
