@@ -44,16 +44,14 @@ pub text-at : (v : List ℕ) (i : ℕ) → i < length v
 text-at v i h = rw (drop-cons v i 0 h, add-one) (text-cons (getD v i 0) (drop (suc i) v))
 
 -- no code of Table 6 is over 8
+none-either : (x : Bool) → pick x false false ≡ false
+none-either true = refl
+none-either false = refl
+
 pub over-allowed : (tag n : ℕ) → 8 < n → allowed tag n ≡ false
 unfolding allowed has
 over-allowed tag n h =
-    simp (le-leb 1 n (omega arith), lt-leb n 8 (omega arith), ne-eqb n 1 (λ e. omega arith), ne-eqb n 2 (λ e. omega arith), ne-eqb n 4 (λ e. omega arith), ne-eqb n 6 (λ e. omega arith))
-    (go (eqb tag 0x50) (eqb tag 0x51))
-  where
-    go : (x y : Bool) → pick x false (pick y false false) ≡ false
-    go true y = refl
-    go false true = refl
-    go false false = refl
+    simp (le-leb 1 n (omega arith), lt-leb n 8 (omega arith), ne-eqb n 1 (λ e. omega arith), ne-eqb n 2 (λ e. omega arith), ne-eqb n 4 (λ e. omega arith), ne-eqb n 6 (λ e. omega arith), none-either)
 
 pub allowed-over : (tag n : ℕ) → allowed tag n ≡ true → n ≤ 8
 allowed-over tag n e = go (leb n 8) refl
