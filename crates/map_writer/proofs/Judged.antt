@@ -7,11 +7,10 @@ use native.Mathlib.Omega.{arith}
 use borrow.Author.Tests.{eq-eqb, ne-eqb, eqb-true, eqb-false}
 use lib.ListN.{length, getD, take, drop, length-drop}
 use lib.Seq.{length-take-le}
-use lib.Dec.{eqb, ltb}
+use lib.Dec.{eqb}
 use Rattle.plate.specs.Choice.{pick}
 use Rattle.number.specs.Number.{beBytes}
 use Rattle.number.proofs.Laws.{length-beBytes}
-use Rattle.text.specs.Text.{textOk}
 use Rattle.items.specs.Items.{Item}
 use Rattle.items.specs.Judge.{formOf, isKnown, faultOf, countsAs, has, judgeItems}
 use Rattle.items.specs.declared.Form.{Form}
@@ -20,18 +19,16 @@ use Rattle.items.specs.declared.Section.{Section}
 use Rattle.items.specs.declared.Section.the-variants as section
 use Rattle.items.specs.declared.Verdict.the-variants.{Accepted}
 use Rattle.items.proofs.Anywhere.{verdict-bytes}
-use Rattle.media_type.specs.MediaType.{knownType}
 use Rattle.track_section.specs.Tracks.{Description, over, trackVerdict, endVerdict, judgeTracks}
 use Rattle.track_section.proofs.Anywhere.{Passed, pass}
 use Rattle.map.specs.Encode.{TrackParts, described}
 use Rattle.map.specs.Said.{Good}
-use Rattle.map_writer.specs.declared.Slot.{Slot}
-use Rattle.map_writer.specs.Given.{slotAt, slots, materialSlots, Given, trackAt, tracksFrom}
-use Rattle.map_writer.specs.Write.{isText, isEight, fits, reads, slotFault, slotsFault, given, barred, ownFault, tracksFault, idFault, idsFault, valueOf, itemsOf, partsOfTrack, partsOf}
-use Rattle.map_writer.proofs.Laws.{none-graver}
-use Rattle.map_writer.proofs.Puts.{present-fits, eight-fits}
-use Rattle.map_writer.proofs.PutTracks.{tracks-clean}
-use Rattle.map_writer.proofs.Packet.{Clean}
+use Rattle.map_given.specs.declared.Slot.{Slot}
+use Rattle.map_given.specs.Given.{slotAt, slots, materialSlots, trackAt, tracksFrom}
+use Rattle.map_given.specs.Faults.{isText, isEight, slotFault, slotsFault, given, ownFault, tracksFault, idFault, idsFault}
+use Rattle.map_writer.specs.Write.{valueOf, itemsOf, partsOfTrack, partsOf}
+use Rattle.map_given.proofs.Laws.{none-graver}
+use Rattle.map_given.proofs.Clean.{present-fits, eight-fits, tracks-clean, Clean, reads-text, not-both, id-fresh}
 
 -- the form of a slot's item
 abbrev shapeOf : ℕ → Form
@@ -41,16 +38,6 @@ shapeOf tag = pick (isText tag) Text (pick (isEight tag) (Sized 8) (Sized 4))
 abbrev Known : Section → List Slot → Type 0
 Known section [] = Unit {0}
 Known section (s ∷ ss) = (formOf section (s .tag) ≡ shapeOf (s .tag)) × Known section ss
-
--- a text that reads
-reads-text : (text : List ℕ) (s : Slot) → s .mark ≡ 1 → isText (s .tag) ≡ true → slotFault text s ≡ 0 → textOk (take (s .second) (drop (s .first) text) ++ (0 ∷ [])) ≡ true
-unfolding slotFault reads
-reads-text text s e f = simp (eq-eqb (s .mark) 1 e, ne-eqb (s .mark) 0 (λ z. omega arith), f) (go (fits text s) (textOk (take (s .second) (drop (s .first) text) ++ (0 ∷ []))))
-  where
-    go : (a b : Bool) → _≡_ {A = ℕ} (pick a (pick b 0 11) 24) 0 → b ≡ true
-    go true true h = refl
-    go true false h = absurd (omega arith)
-    go false b h = absurd (omega arith)
 
 -- an item of a slot without fault has none
 item-fine : (text : List ℕ) (s : Slot) → s .mark ≡ 1 → slotFault text s ≡ 0 → faultOf (shapeOf (s .tag)) (valueOf text s) ≡ 0
@@ -214,17 +201,6 @@ material-good text ms p h =
     judge-slots text ms section.Material 6 0 0x40 p [] (material-known ms) h (none-below 0x40)
     (λ e. absurd (let z : false ≡ true = sym (no-4F ms) ∙ e in let y : _≡_ {A = ℕ} 0 1 = cc in omega arith))
 
-not-both : (t : Given) → ownFault t ≡ 0 → given 0x4F (t .slots) ≡ true → given 0x4D (t .slots) ≡ false
-unfolding ownFault
-not-both t = go (knownType (t .kind)) (barred (t .slots)) (given 0x4D (t .slots)) (given 0x4F (t .slots))
-  where
-    go : (a b x y : Bool) → _≡_ {A = ℕ} (pick a (pick b 24 (pick x (pick y 10 0) 0)) 24) 0 → y ≡ true → x ≡ false
-    go true true x y e f = absurd (omega arith)
-    go true false true true e f = absurd (omega arith)
-    go true false true false e f = absurd (let w : _≡_ {A = ℕ} 0 1 = cc in omega arith)
-    go true false false y e f = refl
-    go false b x y e f = absurd (omega arith)
-
 track-good : (text ts : List ℕ) (at p : ℕ) → ownFault (trackAt ts at) ≡ 0 → slotsFault text (trackAt ts at .slots) ≡ 0
     → judgeItems section.Track [] p (itemsOf text (trackAt ts at .slots)) ≡ Accepted
 track-good text ts at p o h =
@@ -241,15 +217,6 @@ same-more ids marked id f x = go (eqb x id) refl
     go : (b : Bool) → eqb x id ≡ b → pick (eqb (0xC0 + x) (0xC0 + id)) true (has (0xC0 + x) marked) ≡ pick b true (has x ids)
     go true e = let a = eqb-true x id e in simp (eq-eqb (0xC0 + x) (0xC0 + id) (omega arith))
     go false e = simp (ne-eqb (0xC0 + x) (0xC0 + id) (λ z. eqb-false x id e (omega arith))) (f x)
-
-id-fresh : (ids : List ℕ) (id : ℕ) → idFault ids id ≡ 0 → has id ids ≡ false
-unfolding idFault
-id-fresh ids id = go (ltb 63 id) (has id ids)
-  where
-    go : (a b : Bool) → _≡_ {A = ℕ} (pick a 24 (pick b 10 0)) 0 → b ≡ false
-    go true b e = absurd (omega arith)
-    go false true e = absurd (omega arith)
-    go false false e = refl
 
 module _ (text ts : List ℕ) where
   judge-tracks : (n at p : ℕ) (ids marked : List ℕ) → Same ids marked → tracksFault text (tracksFrom n ts at) ≡ 0 → idsFault ids (tracksFrom n ts at) ≡ 0

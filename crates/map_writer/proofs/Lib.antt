@@ -1,10 +1,11 @@
-pub mod Ids
 pub mod Judged
 pub mod Laws
+pub mod Meaning
 pub mod Once
 pub mod Packet
 pub mod PutTracks
 pub mod Puts
+pub mod Readers
 pub mod RoundTrip
 pub mod Told
 pub mod Worked

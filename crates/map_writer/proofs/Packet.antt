@@ -1,15 +1,14 @@
 -- The packet put together from its runs, and the outcomes of a call.
-use Prim.Native.Nat.{ℕ, _+_, _-_, _%_, _<_, _≤_}
+use Prim.Native.Nat.{ℕ, _+_, _-_, _<_, _≤_}
 use mathlib.Core.Path.{_≡_, refl, sym, _∙_, ap}
-use mathlib.Core.Bool.{Bool, true, false}
+use mathlib.Core.Bool.{true, false}
 use mathlib.Core.List.{List, [], _∷_, _++_, append-assoc}
 use native.Mathlib.Omega.{arith}
 use native.Mathlib.Nat.{zero-add}
-use borrow.Author.Tests.{eqb-true, ne-eqb, le-ltb, lt-ltb}
+use borrow.Author.Tests.{ne-eqb, le-ltb, lt-ltb}
 use lib.ListN.{length, set, replicate, length-append}
 use lib.Seq.{sets}
-use lib.Dec.{eqb, ltb}
-use Rattle.plate.specs.Choice.{pick}
+use lib.Dec.{ltb}
 use Rattle.number.specs.Number.{beBytes}
 use Rattle.number.proofs.Laws.{length-beBytes}
 use Rattle.number.proofs.Stores.{sets-append}
@@ -19,41 +18,14 @@ use Rattle.packet_writer.specs.declared.WriteAnswer.the-variants.{Length}
 use Rattle.map.specs.Encode as encode
 use Rattle.map.specs.Encode.{padding, packetLength, sectionBytes, front, encode}
 use Rattle.map.proofs.Encoded.{front-length, packet-length}
-use Rattle.map_writer.specs.Given.{materialSlots, tracksGiven}
+use Rattle.map_given.specs.Given.{materialSlots, tracksGiven}
 use Rattle.map_writer.specs.Sizes.{slotsSize, tracksSize, tracksBytes}
-use Rattle.map_writer.specs.Write.{slotsFault, graver, tracksFault, idsFault, faultOf, itemsOf, partsOf, packetOf, materialLength, tracksLength, writeOf, written}
-use Rattle.map_writer.proofs.Laws.{none-graver, slots-under}
+use Rattle.map_given.specs.Faults.{faultOf}
+use Rattle.map_writer.specs.Write.{itemsOf, partsOf, packetOf, materialLength, tracksLength, writeOf, written}
+use Rattle.map_writer.proofs.Laws.{slots-under}
 use Rattle.map_writer.proofs.Puts.{slots-length}
 use Rattle.map_writer.proofs.PutTracks.{tracks-length}
-
--- an input without fault
-pub record Clean (text ms ts : List ℕ) : Type 0 where
-  pub words : length ms ≡ 18
-  pub whole : length ts % 23 ≡ 0
-  pub material : slotsFault text (materialSlots ms) ≡ 0
-  pub tracks : tracksFault text (tracksGiven ts) ≡ 0
-  pub ids : idsFault [] (tracksGiven ts) ≡ 0
-
-pub clean : (text ms ts : List ℕ) → faultOf text ms ts ≡ 0 → Clean text ms ts
-unfolding faultOf
-clean text ms ts = go (eqb (length ms) 18) refl (eqb (length ts % 23) 0) refl
-  where
-    a : ℕ
-    a = slotsFault text (materialSlots ms)
-
-    b : ℕ
-    b = tracksFault text (tracksGiven ts)
-
-    d : ℕ
-    d = idsFault [] (tracksGiven ts)
-
-    go : (x : Bool) → eqb (length ms) 18 ≡ x → (y : Bool) → eqb (length ts % 23) 0 ≡ y → _≡_ {A = ℕ} (pick x (pick y (graver (graver a b) d) 24) 24) 0 → Clean text ms ts
-    go true e true f h =
-        let g = none-graver (graver a b) d h in
-        let k = none-graver a b (g .0) in
-        record { words = eqb-true (length ms) 18 e; whole = eqb-true (length ts % 23) 0 f; material = k .0; tracks = k .1; ids = g .1 }
-    go true e false f h = absurd (omega arith)
-    go false e y f h = absurd (omega arith)
+use Rattle.map_given.proofs.Clean.{Clean, clean}
 
 -- a run after what stands from 0 on
 run-more : (a b l : List ℕ) (n : ℕ) → length a ≡ n → sets (sets l 0 a) n b ≡ sets l 0 (a ++ b)

@@ -1,63 +1,24 @@
 -- How the writer puts tracks together: one after another.
 use Prim.Native.Nat.{ℕ, _+_, _-_, _*_, _<_, _≤_}
-use mathlib.Core.Path.{_≡_, refl, sym, _∙_}
-use mathlib.Core.Bool.{Bool, true, false}
+use mathlib.Core.Path.{_≡_, refl, _∙_}
 use mathlib.Core.List.{List, [], _∷_, _++_, append-assoc, append-nil}
 use native.Mathlib.Omega.{arith}
-use borrow.Author.Tests.{ltb-false, leb-true, leb-false, le-leb, lt-leb}
 use lib.ListN.{length, set, length-append}
 use lib.Seq.{sets}
-use lib.Dec.{ltb, leb}
-use Rattle.plate.specs.Choice.{pick}
 use Rattle.number.specs.Number.{beBytes}
 use Rattle.number.proofs.Laws.{length-beBytes}
 use Rattle.number.proofs.Stores.{sets-append}
-use Rattle.media_type.specs.MediaType.{knownType}
 use Rattle.items.specs.Items.{bytesOf}
-use Rattle.items.specs.Judge.{has}
 use Rattle.track_section.specs.Tracks as tracks
 use Rattle.map.specs.Encode.{described}
-use Rattle.map_writer.specs.Given.{slots, Given, trackAt, tracksFrom}
+use Rattle.map_given.specs.Given.{slots, Given, trackAt, tracksFrom}
 use Rattle.map_writer.specs.Sizes.{slotsSize, tracksSize, tracksBytes}
-use Rattle.map_writer.specs.Write.{slotsFault, graver, barred, given, ownFault, tracksFault, idFault, idsFault, itemsOf}
-use Rattle.map_writer.proofs.Laws.{none-graver, tracks-more, no-tracks, tracks-size-turn}
+use Rattle.map_given.specs.Faults.{slotsFault, ownFault, tracksFault}
+use Rattle.map_writer.specs.Write.{itemsOf}
+use Rattle.map_given.proofs.Laws.{tracks-more, no-tracks}
+use Rattle.map_writer.proofs.Laws.{tracks-size-turn}
 use Rattle.map_writer.proofs.Puts.{item-run, slots-length}
-
--- a track's type without fault is one of Table 5, and an ID without fault is at most 63
-known-over : (k : ℕ) → 26 < k → knownType k ≡ false
-unfolding knownType
-known-over k h =
-    simp (le-leb 3 k (omega arith), lt-leb k 4 (omega arith), le-leb 7 k (omega arith), lt-leb k 18 (omega arith), le-leb 20 k (omega arith), lt-leb k 26 (omega arith))
-
-pub known-under : (k : ℕ) → knownType k ≡ true → k ≤ 26
-known-under k e = go (leb k 26) refl
-  where
-    go : (b : Bool) → leb k 26 ≡ b → k ≤ 26
-    go true q = leb-true k 26 q
-    go false q = absurd (let n = known-over k (leb-false k 26 q) in let z : false ≡ true = sym n ∙ e in let y : _≡_ {A = ℕ} 0 1 = cc in omega arith)
-
-pub own-known : (t : Given) → ownFault t ≡ 0 → knownType (t .kind) ≡ true
-unfolding ownFault
-own-known t = go (knownType (t .kind))
-  where
-    go : (a : Bool) → _≡_ {A = ℕ} (pick a (pick (barred (t .slots)) 24 (pick (given 0x4D (t .slots)) (pick (given 0x4F (t .slots)) 10 0) 0)) 24) 0 → a ≡ true
-    go true h = refl
-    go false h = absurd (omega arith)
-
-abbrev pub Narrow : List Given → Type 0
-Narrow [] = Unit {0}
-Narrow (t ∷ ts) = (t .id < 64) × Narrow ts
-
-pub ids-narrow : (ids : List ℕ) (ts : List Given) → idsFault ids ts ≡ 0 → Narrow ts
-unfolding idsFault idFault
-ids-narrow ids [] h = tt
-ids-narrow ids (t ∷ ts) h =
-    let n = none-graver (pick (ltb 63 (t .id)) 24 (pick (has (t .id) ids) 10 0)) (idsFault (t .id ∷ ids) ts) h in
-    (go (ltb 63 (t .id)) refl (n .0), ids-narrow (t .id ∷ ids) ts (n .1))
-  where
-    go : (a : Bool) → ltb 63 (t .id) ≡ a → _≡_ {A = ℕ} (pick a 24 (pick (has (t .id) ids) 10 0)) 0 → t .id < 64
-    go true e f = absurd (omega arith)
-    go false e f = omega (arith, ltb-false)
+use Rattle.map_given.proofs.Clean.{tracks-clean, Narrow, known-under, own-known}
 
 -- a track: two bytes, the length and the items
 pub track-bytes : (text : List ℕ) (t : Given) → slotsFault text (t .slots) ≡ 0
@@ -77,14 +38,6 @@ track-length text t h =
 pub tracks-cons : (text : List ℕ) (t : Given) (ts : List Given) → tracksBytes text (t ∷ ts) ≡ tracksBytes text (t ∷ []) ++ tracksBytes text ts
 unfolding tracksBytes tracks.bytesOf
 tracks-cons text t ts = simp (append-nil, append-assoc)
-
-pub tracks-clean : (text : List ℕ) (t : Given) (ts : List Given) → tracksFault text (t ∷ ts) ≡ 0
-    → (ownFault t ≡ 0) × (slotsFault text (t .slots) ≡ 0) × (tracksFault text ts ≡ 0)
-unfolding tracksFault
-tracks-clean text t ts h =
-    let a = none-graver (graver (ownFault t) (slotsFault text (t .slots))) (tracksFault text ts) h in
-    let b = none-graver (ownFault t) (slotsFault text (t .slots)) (a .0) in
-    (b .0, b .1, a .1)
 
 no-bytes : (text : List ℕ) → length (tracksBytes text []) ≡ 0
 unfolding tracksBytes tracks.bytesOf

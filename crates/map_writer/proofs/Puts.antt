@@ -4,23 +4,25 @@ use mathlib.Core.Path.{_≡_, refl, _∙_, ap}
 use mathlib.Core.List.{List, [], _∷_, _++_, append-assoc, append-nil}
 use native.Mathlib.Omega.{arith}
 use native.Mathlib.Numerals.{add-one}
-use lib.ListN.{length, getD, set, take, drop, replicate, length-replicate, length-drop}
+use lib.ListN.{length, getD, set, take, drop, replicate, length-replicate, length-drop, length-append}
 use lib.Seq.{sets, take-suc, length-take-le, getD-drop}
 use Rattle.number.proofs.Stores.{sets-append}
 use mathlib.Core.Bool.{Bool, true, false}
-use lib.ListN.{length-append}
-use lib.Dec.{leb, eqb}
-use borrow.Author.Tests.{eq-eqb, ne-eqb, eqb-true, eqb-false, leb-true, le-ltb}
+use lib.Dec.{eqb}
+use borrow.Author.Tests.{eq-eqb, ne-eqb, eqb-true, eqb-false, le-ltb}
 use Rattle.plate.specs.Choice.{pick}
 use Rattle.number.specs.Number.{beBytes}
 use Rattle.number.proofs.Laws.{length-beBytes}
 use Rattle.items.specs.Items.{bytesOf}
 use Rattle.items.specs.Judge.{has}
-use Rattle.map_writer.specs.declared.Slot.{Slot}
-use Rattle.map_writer.specs.Given.{slotAt, slots}
+use Rattle.map_given.specs.declared.Slot.{Slot}
+use Rattle.map_given.specs.Given.{slotAt, slots}
 use Rattle.map_writer.specs.Sizes.{slotSize, slotsSize}
-use Rattle.map_writer.proofs.Laws.{text-fits, none-graver, slots-more, no-slots, slots-size-turn}
-use Rattle.map_writer.specs.Write.{isText, isEight, fits, reads, slotFault, slotsFault, valueOf, itemsOf}
+use Rattle.map_given.proofs.Laws.{text-fits, none-graver, slots-more, no-slots}
+use Rattle.map_writer.proofs.Laws.{slots-size-turn}
+use Rattle.map_given.specs.Faults.{isText, isEight, slotFault, slotsFault}
+use Rattle.map_writer.specs.Write.{valueOf, itemsOf}
+use Rattle.map_given.proofs.Clean.{present-fits, eight-fits}
 
 -- one byte more at the end of a run
 byte-more : (a l : List ℕ) (i n b : ℕ) → length a ≡ n → set (sets l i a) (i + n) b ≡ sets l i (a ++ (b ∷ []))
@@ -77,14 +79,6 @@ module _ (text : List ℕ) (s : Slot) where
   unfolding valueOf
   number-bytes e f g = item-bytes (beBytes 4 (s .first)) e (rw (f, g)) ∙ rw (length-beBytes 4 (s .first))
 
-  pub eight-fits : isText (s .tag) ≡ false → isEight (s .tag) ≡ true → fits text s ≡ true → (s .second ≡ 8) × (s .first + 8 ≤ length text)
-  unfolding fits
-  eight-fits e f = rw (e, f) (go (eqb (s .second) 8) refl)
-    where
-      go : (x : Bool) → eqb (s .second) 8 ≡ x → pick x (leb (s .first + s .second) (length text)) false ≡ true → (s .second ≡ 8) × (s .first + 8 ≤ length text)
-      go true a b = let q = eqb-true (s .second) 8 a in (q, omega (arith, leb-true))
-      go false a b = absurd (let z : _≡_ {A = Bool} false true = b in let y : _≡_ {A = ℕ} 0 1 = cc in omega arith)
-
   -- what a present slot without fault takes
   pub size-text : s .mark ≡ 1 → isText (s .tag) ≡ true → s .second ≤ 254 → slotSize s ≡ 3 + s .second
   unfolding slotSize
@@ -98,7 +92,7 @@ module _ (text : List ℕ) (s : Slot) where
   unfolding slotSize
   size-number e f g = simp (eq-eqb (s .mark) 1 e, f, g)
 
-  -- an absent slot has no bytes; a present one without fault fits
+  -- an absent slot has no bytes
   pub absent-bytes : (s .mark ≡ 1 → ⊥) → bytesOf (itemsOf text (s ∷ [])) ≡ []
   unfolding itemsOf bytesOf
   absent-bytes e = simp (ne-eqb (s .mark) 1 e)
@@ -106,14 +100,6 @@ module _ (text : List ℕ) (s : Slot) where
   pub size-absent : (s .mark ≡ 1 → ⊥) → slotSize s ≡ 0
   unfolding slotSize
   size-absent e = simp (ne-eqb (s .mark) 1 e)
-
-  pub present-fits : s .mark ≡ 1 → slotFault text s ≡ 0 → fits text s ≡ true
-  unfolding slotFault
-  present-fits e = simp (eq-eqb (s .mark) 1 e, ne-eqb (s .mark) 0 (λ z. omega arith)) (go (fits text s) (reads text s))
-    where
-      go : (a b : Bool) → _≡_ {A = ℕ} (pick a (pick b 0 11) 24) 0 → a ≡ true
-      go true b f = refl
-      go false b f = absurd (omega arith)
 
 eight-tag : (t : ℕ) → isEight t ≡ true → t ≡ 0x4D
 unfolding isEight

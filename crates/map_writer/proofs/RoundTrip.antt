@@ -25,11 +25,13 @@ use Rattle.map.proofs.Said.{shown-encoded}
 use Rattle.map.proofs.Within.{read-there, track-there}
 use Rattle.packet_writer.specs.Write.{refused}
 use Rattle.packet_writer.specs.declared.WriteAnswer.the-variants.{Length, Refused}
-use Rattle.packet_writer.proofs.Laws.{framed}
-use Rattle.map_writer.specs.Given.{tracksGiven}
+use Rattle.packet_writer.proofs.Laws.{framed, header-before, header-stands}
+use Rattle.map_given.specs.Given.{tracksGiven}
 use Rattle.map_writer.specs.Told.{told}
-use Rattle.map_writer.specs.Write.{partsOf, partsOfTrack, packetOf, faultOf, materialLength, tracksLength, writeOf, written}
-use Rattle.map_writer.proofs.Packet.{Clean, clean, material-size, material-short}
+use Rattle.map_writer.specs.Write.{partsOf, partsOfTrack, packetOf, materialLength, tracksLength, writeOf, written}
+use Rattle.map_given.specs.Faults.{faultOf}
+use Rattle.map_given.proofs.Clean.{Clean, clean}
+use Rattle.map_writer.proofs.Packet.{material-size, material-short}
 use Rattle.map_writer.proofs.Told.{parts-told}
 use Rattle.map_writer.proofs.Judged.{parts-good}
 use contract.Lifetimes.{Lfts}
@@ -47,6 +49,7 @@ pub record ReadBack (out : List ℕ) (at : ℕ) (text ms ts : List ℕ) (n : ℕ
   -- the packet stands at its place, and the answer is its length
   pub long : n ≡ length (packetOf text ms ts)
   pub stands : take n (drop at now) ≡ packetOf text ms ts
+  pub header : headerAt now at ≡ Whole (record { kind = 0xBC; len = n })
   -- the reader's answer there: count, material, and the records by their number
   pub read : mapAt now at ≡ Says (record { count = length (listedIn (packetOf text ms ts)); material = materialSays (packetOf text ms ts) })
   pub track : (k : ℕ) → trackAt now at k ≡ onKth (kthOf k (listedIn (packetOf text ms ts)))
@@ -57,14 +60,14 @@ pub record ReadBack (out : List ℕ) (at : ℕ) (text ms ts : List ℕ) (n : ℕ
   pub lengths : length now ≡ length out
 
 -- a length was answered: there was no fault, the sections fit, and there was room
-record Answered (out : List ℕ) (at : ℕ) (text ms ts : List ℕ) (n : ℕ) : Type 0 where
-  none : faultOf text ms ts ≡ 0
-  short : tracksLength (partsOf text ms ts) ≤ 65535
-  lens : n ≡ length (packetOf text ms ts)
-  room : length (packetOf text ms ts) ≤ length out - at
+pub record Answered (out : List ℕ) (at : ℕ) (text ms ts : List ℕ) (n : ℕ) : Type 0 where
+  pub none : faultOf text ms ts ≡ 0
+  pub short : tracksLength (partsOf text ms ts) ≤ 65535
+  pub lens : n ≡ length (packetOf text ms ts)
+  pub room : length (packetOf text ms ts) ≤ length out - at
 
 module _ (out : List ℕ) (at : ℕ) (text ms ts : List ℕ) (n : ℕ) where
-  answered : writeOf out at text ms ts ≡ Length n → Answered out at text ms ts n
+  pub answered : writeOf out at text ms ts ≡ Length n → Answered out at text ms ts n
   unfolding writeOf
   answered = go (eqb (faultOf text ms ts) 0) refl (ltb 65535 (materialLength (partsOf text ms ts))) (ltb 65535 (tracksLength (partsOf text ms ts))) refl (ltb (length out - at) (length (packetOf text ms ts))) refl
     where
@@ -110,6 +113,7 @@ module _ (out : List ℕ) (at : ℕ) (text ms ts : List ℕ) (n : ℕ) where
       record {
         long = refl;
         stands = g .stands;
+        header = header-stands out at p (omega arith) (record { kind = 0xBC; len = length p }) (λ s. header-before p s (record { kind = 0xBC; len = length p }) h);
         read = rw (append-assoc q p r) (rw l at (read-there q p r h v));
         track = λ k. rw (append-assoc q p r) (rw l at (track-there q p r h v k));
         shown = shown-encoded (partsOf text ms ts) f ∙ parts-told text ms ts c;

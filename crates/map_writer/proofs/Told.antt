@@ -14,8 +14,6 @@ use Rattle.number.specs.Number.{be, beBytes}
 use Rattle.number.proofs.Laws.{be-back, length-beBytes}
 use Rattle.items.specs.Find.{Found, missing, found, find, partOf}
 use Rattle.items.specs.Judge.{has}
-use Rattle.items.proofs.Anywhere.{never}
-use Rattle.media_type.specs.MediaType.{knownType}
 use Rattle.answer.specs.Answer as answer
 use Rattle.answer.specs.Answer.{allowed, codeOf, isNull}
 use Rattle.answer.specs.declared.Value.the-variants as value
@@ -25,14 +23,13 @@ use Rattle.map.specs.Encode.{described}
 use Rattle.map.specs.Shown.{Held, nothing, bytes}
 use Rattle.map.specs.Said.{heldOf, materialSaid, trackSaid, listedOf, saidBy}
 use Rattle.map.proofs.Said.{same-value, same-null}
-use Rattle.map_writer.specs.declared.Slot.{Slot}
-use Rattle.map_writer.specs.Given.{slotAt, slots, materialSlots, Given, trackAt, tracksFrom}
-use Rattle.map_writer.specs.Write.{isText, isEight, isCode, codeFits, fits, slotFault, slotsFault, given, nullName, barred, ownFault, tracksFault, valueOf, itemsOf, partsOfTrack, partsOf}
+use Rattle.map_given.specs.declared.Slot.{Slot}
+use Rattle.map_given.specs.Given.{slotAt, slots, materialSlots, Given, trackAt, tracksFrom}
+use Rattle.map_given.specs.Faults.{isText, isEight, isCode, codeFits, fits, slotFault, slotsFault, nullName, ownFault, tracksFault}
+use Rattle.map_writer.specs.Write.{valueOf, itemsOf, partsOfTrack, partsOf}
 use Rattle.map_writer.specs.Told.{textTold, eightTold, valueTold, codeTold, materialTold, trackTold, tracksTold, told}
-use Rattle.map_writer.proofs.Laws.{none-graver, allowed-over, text-fits, gives-4D, gives-4E, gives-4F, names-null}
-use Rattle.map_writer.proofs.Puts.{present-fits, eight-fits}
-use Rattle.map_writer.proofs.PutTracks.{own-known, tracks-clean}
-use Rattle.map_writer.proofs.Packet.{Clean}
+use Rattle.map_given.proofs.Laws.{allowed-over, text-fits, gives-4D, gives-4E, gives-4F, names-null}
+use Rattle.map_given.proofs.Clean.{present-fits, eight-fits, own-known, tracks-clean, Clean, slot-of, hidden-none, not-barred}
 
 -- the item of a slot, if it is given
 unfoldable pub slotFound : List ℕ → Slot → Found
@@ -73,17 +70,6 @@ module _ (text ws : List ℕ) where
           ≡ heldOf (slotFound text (slotAt ws place tag))
       go true m = simp (ne-eqb t tag (λ z. omega arith)) (m (q + 2 + length (valueOf text (slotAt ws at t))))
       go false m = m q
-
-  -- and has no fault if none has
-  pub slot-of : (k n at t tag place : ℕ) → k < n → tag ≡ t + k → place ≡ at + 3 * k → slotsFault text (slots n ws at t) ≡ 0 → slotFault text (slotAt ws place tag) ≡ 0
-  unfolding slots slotsFault
-  slot-of k zero at t tag place h e f g = absurd (omega arith)
-  slot-of zero (suc n) at t tag place h e f g =
-      let a : tag ≡ t = omega arith in
-      let b : place ≡ at = omega arith in
-      rw (a, b) (none-graver (slotFault text (slotAt ws at t)) (slotsFault text (slots n ws (at + 3) (t + 1))) g .0)
-  slot-of (suc k) (suc n) at t tag place h e f g =
-      slot-of k n (at + 3) (t + 1) tag place (omega arith) (omega arith) (omega arith) (none-graver (slotFault text (slotAt ws at t)) (slotsFault text (slots n ws (at + 3) (t + 1))) g .1)
 
 -- a number of 32 bits reads back
 number-read : (v : ℕ) → v < 256 ^ 4 → answer.valueOf (found 0 (beBytes 4 v)) ≡ value.Is v
@@ -208,27 +194,6 @@ module _ (text ms : List ℕ) (h : slotsFault text (materialSlots ms) ≡ 0) whe
         material-value 4 0x44 12 (omega arith) refl refl refl refl refl,
         material-value 5 0x45 15 (omega arith) refl refl refl refl refl,
       )
-
--- what is not barred: no 4D, 4E or 4F is given beside a null name
-not-barred : (t : Given) → ownFault t ≡ 0 → barred (t .slots) ≡ false
-unfolding ownFault
-not-barred t = go (knownType (t .kind)) (barred (t .slots))
-  where
-    go : (a b : Bool) → _≡_ {A = ℕ} (pick a (pick b 24 (pick (given 0x4D (t .slots)) (pick (given 0x4F (t .slots)) 10 0) 0)) 24) 0 → b ≡ false
-    go true true e = absurd (omega arith)
-    go true false e = refl
-    go false b e = absurd (omega arith)
-
-hidden-none : (ss : List Slot) → barred ss ≡ false → nullName ss ≡ true → (given 0x4D ss ≡ false) × (given 0x4E ss ≡ false) × (given 0x4F ss ≡ false)
-unfolding barred
-hidden-none ss = go (nullName ss) (given 0x4D ss) (given 0x4E ss) (given 0x4F ss)
-  where
-    go : (n a b c : Bool) → pick n (pick a true (pick b true c)) false ≡ false → n ≡ true → (a ≡ false) × (b ≡ false) × (c ≡ false)
-    go true true b c e f = never e
-    go true false true c e f = never e
-    go true false false true e f = never e
-    go true false false false e f = (refl, refl, refl)
-    go false a b c e f = never (sym f)
 
 -- a track: each slot by its tag
 module _ (text ts : List ℕ) (at : ℕ) (own : ownFault (trackAt ts at) ≡ 0) (h : slotsFault text (trackAt ts at .slots) ≡ 0) where

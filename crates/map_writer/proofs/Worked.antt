@@ -14,8 +14,9 @@ use Rattle.map.specs.Encode as encode
 use Rattle.map.specs.Encode.{described, padding, packetLength, sectionBytes, front, encode}
 use Rattle.packet_writer.specs.Write.{refused}
 use Rattle.packet_writer.specs.declared.WriteAnswer.the-variants.{Length}
-use Rattle.map_writer.specs.Given.{slots, tracksFrom}
-use Rattle.map_writer.specs.Write.{isText, isEight, isCode, codeFits, fits, reads, slotFault, slotsFault, given, nullName, barred, ownFault, tracksFault, idFault, idsFault, faultOf, valueOf, itemsOf, partsOf, packetOf, writeOf, written}
+use Rattle.map_given.specs.Given.{slots, tracksFrom}
+use Rattle.map_given.specs.Faults.{isText, isEight, isCode, codeFits, fits, reads, slotFault, slotsFault, given, nullName, barred, ownFault, tracksFault, idFault, idsFault, faultOf}
+use Rattle.map_writer.specs.Write.{valueOf, itemsOf, partsOf, packetOf, writeOf, written}
 
 -- an absent slot, a number, a code of −2, a text
 abbrev absent : List ℕ

@@ -1,4 +1,5 @@
-pub mod Given
+pub mod Meaning
+pub mod Readers
 pub mod Sizes
 pub mod Told
 pub mod Write

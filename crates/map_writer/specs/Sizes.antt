@@ -1,15 +1,14 @@
 -- How many bytes the items of slots take: what the writer counts before it writes. Of an input with a fault the sizes mean nothing, but stay small enough to be added up.
 use Prim.Native.Nat.{ℕ, _+_}
 use mathlib.Core.List.{List, [], _∷_, map}
-use mathlib.Core.Bool.{Bool, true, false}
-use lib.ListN.{getD, set}
 use lib.Dec.{ltb, eqb}
 use Rattle.plate.specs.Choice.{pick}
-use Rattle.map_writer.specs.Given.{Given}
-use Rattle.map_writer.specs.Write.{isText, isEight, partsOfTrack}
+use Rattle.map_given.specs.Given.{Given}
+use Rattle.map_given.specs.Faults.{isText, isEight}
+use Rattle.map_writer.specs.Write.{partsOfTrack}
 use Rattle.map.specs.Encode.{described}
 use Rattle.track_section.specs.Tracks as tracks
-use Rattle.map_writer.specs.declared.Slot.{Slot}
+use Rattle.map_given.specs.declared.Slot.{Slot}
 
 -- tag, length and value; a text has its 00, and no more than 254 bytes before it
 unfoldable pub slotSize : Slot → ℕ
@@ -34,10 +33,3 @@ tracksBytes text ts = tracks.bytesOf (map described (map (partsOfTrack text) ts)
 -- 65,536 stands for every size that no section can have
 unfoldable pub capped : ℕ → ℕ
 capped n = pick (ltb 65535 n) 65536 n
-
--- the IDs given so far, kept as flags by ID: the fault of one more, and the flags with it
-unfoldable pub flagFault : List Bool → ℕ → ℕ
-flagFault flags id = pick (ltb 63 id) 24 (pick (getD flags id false) 10 0)
-
-unfoldable pub flagged : List Bool → ℕ → List Bool
-flagged flags id = pick (ltb 63 id) flags (set flags id true)

@@ -9,8 +9,8 @@ use Rattle.answer.specs.declared.Value.the-variants as value
 use Rattle.answer.specs.declared.Code.{Code}
 use Rattle.answer.specs.declared.Code.the-variants as code
 use Rattle.map.specs.Shown.{Held, nothing, bytes, MaterialShown, TrackShown, Shown}
-use Rattle.map_writer.specs.declared.Slot.{Slot}
-use Rattle.map_writer.specs.Given.{slotAt}
+use Rattle.map_given.specs.declared.Slot.{Slot}
+use Rattle.map_given.specs.Given.{slotAt}
 
 -- the part of the text that was given, and its 00
 unfoldable pub textTold : List ℕ → Slot → Held

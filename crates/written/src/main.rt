@@ -44,7 +44,7 @@ fn set_slot(record: &mut [u64], slot: usize, first: u64, second: u64) {
     if record.len() - 3 < slot {
         return;
     }
-    record[slot] = map_writer::PRESENT;
+    record[slot] = map_given::PRESENT;
     record[slot + 1] = first;
     record[slot + 2] = second;
 }
@@ -105,12 +105,12 @@ fn show_track(out: &[u8], at: usize) {
 // M: first field 0; track 1, type 10, name A1, rate not available. It goes to byte 2 of the buffer.
 fn write_m() {
     let mut material = [0u64; 18];
-    set_slot(&mut material, map_writer::FIRST_FIELD, 0, 0);
+    set_slot(&mut material, map_given::FIRST_FIELD, 0, 0);
     let mut track = [0u64; 23];
-    track[map_writer::TYPE] = 10;
-    track[map_writer::ID] = 1;
-    set_slot(&mut track, map_writer::NAME, 0, 2);
-    set_slot(&mut track, map_writer::RATE, 0xFFFF_FFFF_FFFF_FFFE, 0);
+    track[map_given::TYPE] = 10;
+    track[map_given::ID] = 1;
+    set_slot(&mut track, map_given::NAME, 0, 2);
+    set_slot(&mut track, map_given::RATE, 0xFFFF_FFFF_FFFF_FFFE, 0);
     let mut out = [7u8; 48];
     show_answer(map_writer::write(&mut out, 2, b"A1", &material, &track));
     show_bytes(&out);
@@ -121,7 +121,7 @@ fn write_m() {
 // A field number, at a place of a buffer.
 fn write_first_field(first: u64, at: usize) {
     let mut material = [0u64; 18];
-    set_slot(&mut material, map_writer::FIRST_FIELD, first, 0);
+    set_slot(&mut material, map_given::FIRST_FIELD, first, 0);
     let track = [0u64; 23];
     let mut out = [7u8; 64];
     show_answer(map_writer::write(&mut out, at, b"", &material, &track[0..0]));

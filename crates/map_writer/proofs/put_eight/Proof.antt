@@ -3,8 +3,7 @@ use Rattle.map_writer.proofs.put_eight.Statement.{statement}
 use Rattle.map_writer.proofs.put_eight.Tie as tie
 use native.Mathlib.Omega.{arith}
 use mathlib.Core.Path.{_∙_}
-use lib.ListN.{drop}
-use lib.ListN.{length-set, take}
+use lib.ListN.{drop, length-set, take}
 use Rattle.map_writer.proofs.Puts.{item-run}
 
 slice-write-out : tie.Need-slice-write-out

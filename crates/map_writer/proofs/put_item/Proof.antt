@@ -3,11 +3,12 @@ use Rattle.map_writer.proofs.put_item.Statement.{statement}
 use Rattle.map_writer.proofs.put_item.Tie as tie
 use native.Mathlib.Omega.{arith}
 use borrow.Author.Tests.{eq-eqb, ne-eqb}
-use Rattle.map_writer.specs.Write.{isEight}
+use Rattle.map_given.specs.Faults.{isEight}
 use mathlib.Core.Path.{sym, _∙_, ap}
 use lib.Seq.{sets}
-use Rattle.map_writer.proofs.Puts.{text-bytes, eight-bytes, number-bytes, eight-fits, size-text, size-eight, size-number}
-use Rattle.map_writer.proofs.Laws.{text-fits}
+use Rattle.map_writer.proofs.Puts.{text-bytes, eight-bytes, number-bytes, size-text, size-eight, size-number}
+use Rattle.map_given.proofs.Clean.{eight-fits}
+use Rattle.map_given.proofs.Laws.{text-fits}
 
 is-text-requires : tie.Need-is-text-requires
 is-text-requires c κs = search needs

@@ -3,7 +3,8 @@ use Rattle.map_writer.proofs.put_packet.Statement.{statement}
 use Rattle.map_writer.proofs.put_packet.Tie as tie
 use native.Mathlib.Omega.{arith}
 use mathlib.Core.Path.{_∙_}
-use Rattle.map_writer.proofs.Packet.{clean, packet-runs}
+use Rattle.map_given.proofs.Clean.{clean}
+use Rattle.map_writer.proofs.Packet.{packet-runs}
 
 add-used : tie.Need-add-used
 add-used c = search needs

@@ -3,7 +3,8 @@ use Rattle.map_writer.proofs.put_slot.Statement.{statement}
 use Rattle.map_writer.proofs.put_slot.Tie as tie
 use mathlib.Core.Path.{sym, ap}
 use lib.Seq.{sets}
-use Rattle.map_writer.proofs.Puts.{absent-bytes, present-fits}
+use Rattle.map_writer.proofs.Puts.{absent-bytes}
+use Rattle.map_given.proofs.Clean.{present-fits}
 
 put-item-requires : tie.Need-put-item-requires
 put-item-requires c κs = (c .before .before .before .before .before .pre .0, c .before .if1 .taken, present-fits _ _ (c .before .if1 .taken) (c .before .before .before .before .before .pre .1))

@@ -2,11 +2,11 @@ use Rattle.map_writer.proofs.put_slots.Statement.{statement}
 use Rattle.map_writer.proofs.put_slots.Tie as tie
 use borrow.Author.Needs.{needs}
 use native.Mathlib.Omega.{arith}
-use Rattle.map_writer.specs.Write.{fits}
+use Rattle.map_given.specs.Faults.{fits}
 use mathlib.Core.Path.{refl, _∙_, ap}
 use lib.ListN.{length}
 use lib.Seq.{sets}
-use Rattle.map_writer.specs.Given.{slots}
+use Rattle.map_given.specs.Given.{slots}
 use Rattle.items.specs.Items.{bytesOf}
 use Rattle.map_writer.specs.Write.{itemsOf}
 use Rattle.map_writer.proofs.Puts.{SlotsLeft, slot-clean, slot-room, slots-turn, slots-done}

@@ -4,10 +4,8 @@ use Rattle.map_writer.proofs.put_text.Tie as tie
 use native.Mathlib.Omega.{arith}
 use mathlib.Core.Path.{_≡_}
 use Prim.Native.Nat.{_+_}
-use lib.ListN.{length, drop}
-use lib.ListN.{length-set, take}
+use lib.ListN.{length, drop, length-set, take, length-drop}
 use lib.Seq.{length-take-le}
-use lib.ListN.{length-drop}
 use Rattle.map_writer.proofs.Puts.{text-run}
 
 slice-write-out : tie.Need-slice-write-out

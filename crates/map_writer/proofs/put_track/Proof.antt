@@ -6,7 +6,7 @@ use mathlib.Core.Path.{_∙_}
 use Prim.Native.Nat.{_+_}
 use lib.ListN.{length-set}
 use Rattle.items.specs.Items.{bytesOf}
-use Rattle.map_writer.specs.Given.{slots, trackAt}
+use Rattle.map_given.specs.Given.{slots, trackAt}
 use Rattle.map_writer.specs.Write.{itemsOf}
 use Rattle.map_writer.proofs.PutTracks.{track-bytes, track-run}
 

@@ -2,13 +2,14 @@ use Rattle.map_writer.proofs.put_tracks.Statement.{statement}
 use Rattle.map_writer.proofs.put_tracks.Tie as tie
 use borrow.Author.Needs.{needs}
 use native.Mathlib.Omega.{arith}
-use Rattle.map_writer.specs.Write.{fits}
+use Rattle.map_given.specs.Faults.{fits}
 use mathlib.Core.Path.{refl, _∙_}
 use lib.ListN.{length}
 use lib.Seq.{sets}
-use Rattle.map_writer.specs.Given.{tracksGiven}
+use Rattle.map_given.specs.Given.{tracksGiven}
 use Rattle.map_writer.specs.Sizes.{tracksBytes}
-use Rattle.map_writer.proofs.PutTracks.{TracksLeft, ids-narrow, track-clean, track-narrow, track-kind, track-room, tracks-turn, tracks-done}
+use Rattle.map_writer.proofs.PutTracks.{TracksLeft, track-clean, track-narrow, track-kind, track-room, tracks-turn, tracks-done}
+use Rattle.map_given.proofs.Clean.{ids-narrow}
 
 abbrev Inv-loop : tie.InvT-loop
 Inv-loop out₀ pos text ts to₀ at₀ left₀ out to at left = TracksLeft (sets out₀ pos (tracksBytes text (tracksGiven ts))) text ts (length out₀) out to at left

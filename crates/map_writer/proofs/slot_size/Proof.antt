@@ -2,7 +2,7 @@ use borrow.Author.Needs.{needs}
 use Rattle.map_writer.proofs.slot_size.Statement.{statement}
 use Rattle.map_writer.proofs.slot_size.Tie as tie
 use borrow.Author.Tests.{lt-ltb, le-ltb, eq-eqb, ne-eqb}
-use Rattle.map_writer.specs.Write.{isEight}
+use Rattle.map_given.specs.Faults.{isEight}
 use mathlib.Core.Path.{sym, _∙_}
 use Rattle.map_writer.specs.Sizes.{slotSize}
 

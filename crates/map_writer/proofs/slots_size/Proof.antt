@@ -7,7 +7,7 @@ use Prim.Native.Nat.{_+_, _*_, _≤_, _<_}
 use lib.ListN.{length}
 use Rattle.map_writer.proofs.Laws.{slots-under, slots-size-turn, slots-size-out}
 use Rattle.map_writer.specs.Sizes.{slotSize, slotsSize}
-use Rattle.map_writer.specs.Given.{slots}
+use Rattle.map_given.specs.Given.{slots}
 
 abbrev Inv-loop : tie.InvT-loop
 Inv-loop ws at tag n total₀ place₀ next₀ left₀ total place next left =

@@ -7,7 +7,7 @@ use Prim.Native.Nat.{_+_, _*_, _≤_}
 use lib.ListN.{length}
 use Rattle.map_writer.proofs.Laws.{slots-under, tracks-size-turn, tracks-size-out, cap-over, cap-within}
 use Rattle.map_writer.specs.Sizes.{tracksSize}
-use Rattle.map_writer.specs.Given.{tracksFrom, tracksGiven}
+use Rattle.map_given.specs.Given.{tracksFrom, tracksGiven}
 
 abbrev Inv-loop : tie.InvT-loop
 Inv-loop ts total₀ at₀ left₀ total at left = (at + 23 * left ≤ length ts) × (total ≤ 65535) × (tracksSize (tracksGiven ts) ≡ total + tracksSize (tracksFrom left ts at))

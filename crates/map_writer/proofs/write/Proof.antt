@@ -4,18 +4,17 @@ use Rattle.map_writer.proofs.write.Tie as tie
 use native.Mathlib.Omega.{arith}
 use mathlib.Core.Path.{_≡_, sym, _∙_, ap}
 use Prim.Native.Nat.{_+_}
-use lib.ListN.{length}
-use lib.ListN.{length-drop}
+use lib.ListN.{length, length-drop, length-take}
 use Rattle.packet_writer.specs.declared.WriteAnswer.the-variants.{Refused, Length}
 use Rattle.packet_writer.proofs.Laws.{part-over, has-room}
 use Rattle.map.specs.Encode.{padding}
 use Rattle.map.proofs.Encoded.{padding-under}
-use Rattle.map_writer.specs.Given.{materialSlots, tracksGiven}
+use Rattle.map_given.specs.Given.{materialSlots, tracksGiven}
 use Rattle.map_writer.specs.Sizes.{slotsSize, tracksSize}
 use Rattle.map_writer.specs.Write.{packetOf}
 use Rattle.map_writer.proofs.Laws.{slots-under, cap-under, cap-is}
-use Rattle.map_writer.proofs.Packet.{clean, packet-size, faulty, section-over, no-room, wrote}
-use lib.ListN.{length-take}
+use Rattle.map_given.proofs.Clean.{clean}
+use Rattle.map_writer.proofs.Packet.{packet-size, faulty, section-over, no-room, wrote}
 
 fault-requires : tie.Need-fault-requires
 fault-requires c κs = search needs

@@ -1,0 +1,4 @@
+pub mod Clean
+pub mod Ids
+pub mod Laws
+pub mod Once

@@ -1,0 +1,4 @@
+pub mod Faults
+pub mod Flags
+pub mod Given
+pub mod Places
