@@ -1,5 +1,5 @@
-use Rattle.probe.proofs.records.records.Statement.{statement}
-use Rattle.probe.proofs.records.records.Tie as tie
+use Rattle.probe_map.proofs.records.Statement.{statement}
+use Rattle.probe_map.proofs.records.Tie as tie
 use borrow.Author.Needs.{needs}
 use Prim.Native.Nat.{_≤_, _-_}
 use mathlib.Core.Path.{_≡_}

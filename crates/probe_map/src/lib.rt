@@ -1,7 +1,5 @@
-// The map reader with n lent records, and the records after it.
-use crate::line;
+// The probe's answer of the map reader with n lent records, and the records after it.
 use answer::Code;
-use answer::Material;
 use answer::Track;
 use answer::Value;
 use items::Part;
@@ -9,70 +7,6 @@ use lent_records::After;
 use map::MapAnswer;
 use map::TrackAnswer;
 ghost use Prim.Native.Nat.{_≤_};
-
-fn value(out: &mut [u8], at: usize, v: Value) -> usize {
-    match v {
-        Value::Is(n) => line::figure(out, at, n as u64),
-        Value::Absent => line::say(out, at, b" -"),
-    }
-}
-
-fn part(out: &mut [u8], at: usize, p: Part) -> usize {
-    match p {
-        Part::At(q, n) => {
-            let k = line::figure(out, at, q as u64);
-            line::figure(out, k, n as u64)
-        }
-        Part::Absent => line::say(out, at, b" -"),
-    }
-}
-
-fn code(out: &mut [u8], at: usize, c: Code) -> usize {
-    match c {
-        Code::Is(n) => line::figure(out, at, n as u64),
-        Code::NotApplicable => line::say(out, at, b" -1"),
-        Code::NotAvailable => line::say(out, at, b" -2"),
-        Code::Absent => line::say(out, at, b" -"),
-    }
-}
-
-fn says(out: &mut [u8], count: usize, m: Material) -> usize {
-    let k = line::one(out, 0, b"map", count);
-    let p = m.name;
-    let k = part(out, k, p);
-    let v = m.first;
-    let k = value(out, k, v);
-    let v = m.last;
-    let k = value(out, k, v);
-    let v = m.mark_in;
-    let k = value(out, k, v);
-    let v = m.mark_out;
-    let k = value(out, k, v);
-    let v = m.size;
-    value(out, k, v)
-}
-
-fn codes(out: &mut [u8], at: usize, t: Track) -> usize {
-    let k = line::two(out, at, b" record", t.id as usize, t.kind as usize);
-    let c = t.rate;
-    let k = code(out, k, c);
-    let c = t.lines;
-    let k = code(out, k, c);
-    let c = t.fields;
-    let k = code(out, k, c);
-    let v = t.version;
-    value(out, k, v)
-}
-
-fn record(out: &mut [u8], at: usize, t: Track) -> usize {
-    let k = codes(out, at, t);
-    let p = t.name;
-    let k = part(out, k, p);
-    let p = t.aux;
-    let k = part(out, k, p);
-    let p = t.mpeg;
-    part(out, k, p)
-}
 
 // What each record holds before the call: no map gives it.
 fn start() -> Track {
@@ -157,18 +91,18 @@ fn held(out: &mut [u8], k: usize, s: &[u8], at: usize, i: usize, t: Track) -> us
             if same(t, u) {
                 return k;
             }
-            line::say(out, k, b" strayed")
+            probe_line::say(out, k, b" strayed")
         }
-        TrackAnswer::Refused(_) => line::say(out, k, b" strayed"),
+        TrackAnswer::Refused(_) => probe_line::say(out, k, b" strayed"),
     }
 }
 
 // Record i after the call: whether it still is what it was, or what it holds.
 fn left(out: &mut [u8], k: usize, s: &[u8], at: usize, i: usize, t: Track) -> usize {
     if same(t, start()) {
-        return line::say(out, k, b" kept");
+        return probe_line::say(out, k, b" kept");
     }
-    let k = record(out, k, t);
+    let k = probe_show::record(out, k, t);
     held(out, k, s, at, i, t)
 }
 
@@ -188,11 +122,11 @@ fn records(out: &mut [u8], from: usize, s: &[u8], at: usize, after: After, n: us
 
 fn words(out: &mut [u8], a: MapAnswer) -> usize {
     match a {
-        MapAnswer::Refused(r) => line::refused(out, 0, r),
+        MapAnswer::Refused(r) => probe_line::refused(out, 0, r),
         MapAnswer::Says(m) => {
             let count = m.count;
             let material = m.material;
-            says(out, count, material)
+            probe_show::says(out, count, material)
         }
     }
 }

@@ -1,5 +1,5 @@
-use Rattle.probe.proofs.write.words.Statement.{statement}
-use Rattle.probe.proofs.write.words.Tie as tie
+use Rattle.probe_room.proofs.words.Statement.{statement}
+use Rattle.probe_room.proofs.words.Tie as tie
 use borrow.Author.Needs.{needs}
 use Prim.Native.Nat.{_≤_, _-_, _*_}
 use mathlib.Core.Path.{_≡_}

@@ -1,5 +1,5 @@
-use Rattle.probe.proofs.read.walk.Statement.{statement}
-use Rattle.probe.proofs.read.walk.Tie as tie
+use Rattle.probe_packet.proofs.walk.Statement.{statement}
+use Rattle.probe_packet.proofs.walk.Tie as tie
 use borrow.Author.Needs.{needs}
 use Prim.Native.Nat.{_≤_, _-_}
 use mathlib.Core.Path.{_≡_}

@@ -1,4 +1,4 @@
-// Tokens of a line, put into a lent buffer from a place on; each function gives the place behind what it put. What finds no room is left out.
+// The probe's lines: tokens of a line, put into a lent buffer from a place on; each function gives the place behind what it put. What finds no room is left out.
 use plate::Refusal;
 
 fn put(out: &mut [u8], at: usize, b: u8) -> usize {
@@ -52,19 +52,10 @@ pub fn hex(out: &mut [u8], at: usize, bytes: &[u8]) -> usize {
     spell(out, k, bytes, true)
 }
 
-// A float's bits; of what is no number, which the library gives nowhere, 0.
-fn bits_of(x: f64) -> u64 {
-    if x == x {
-        let n = f64::to_bits(x);
-        return n;
-    }
-    0
-}
-
 // A space and the bits of a float, in 16 digits.
 pub fn bits(out: &mut [u8], at: usize, x: f64) -> usize {
     let mut text = [0u8; 16];
-    let m = io::hex(bits_of(x), 16, &mut text);
+    let m = io::hex(console::bits_of(x), 16, &mut text);
     let k = say(out, at, b" ");
     say(out, k, &text[..m])
 }
