@@ -1,62 +1,49 @@
 // Lists the packets of a stream on standard input: a line a packet, or the one refusal.
-use libc::STDIN_FILENO;
-use libc::STDOUT_FILENO;
+use console::say;
 use packet::PacketAnswer;
 use stream::CheckAnswer;
 
-fn space() {
-    io::write_all(STDOUT_FILENO, b" ");
-}
-
-fn line_end() {
-    io::write_all(STDOUT_FILENO, b"\n");
-}
-
 fn print_type(kind: u8) {
     if kind == packet::MAP {
-        io::write_all(STDOUT_FILENO, b"map");
+        say(b"map");
         return;
     }
     if kind == packet::MEDIA {
-        io::write_all(STDOUT_FILENO, b"media");
+        say(b"media");
         return;
     }
     if kind == packet::EOS {
-        io::write_all(STDOUT_FILENO, b"eos");
+        say(b"eos");
         return;
     }
     if kind == packet::FLT {
-        io::write_all(STDOUT_FILENO, b"flt");
+        say(b"flt");
         return;
     }
     if kind == packet::UMF {
-        io::write_all(STDOUT_FILENO, b"umf");
+        say(b"umf");
         return;
     }
-    io::write_all(STDOUT_FILENO, b"other");
+    say(b"other");
 }
 
 fn print_refusal(number: u8, place: usize) {
-    io::write_all(STDOUT_FILENO, b"refused ");
-    io::print_decimal(STDOUT_FILENO, number as u64);
-    space();
-    io::print_decimal(STDOUT_FILENO, place as u64);
-    line_end();
+    console::refused(number, place);
+    say(b"\n");
 }
 
 fn print_packet(at: usize, kind: u8, len: usize) {
-    io::print_decimal(STDOUT_FILENO, at as u64);
-    space();
+    console::number(at as u64);
+    say(b" ");
     print_type(kind);
-    space();
-    io::print_decimal(STDOUT_FILENO, len as u64);
-    line_end();
+    console::figure(len as u64);
+    say(b"\n");
 }
 
 fn print_count(n: usize) {
-    io::write_all(STDOUT_FILENO, b"ok ");
-    io::print_decimal(STDOUT_FILENO, n as u64);
-    line_end();
+    say(b"ok");
+    console::figure(n as u64);
+    say(b"\n");
 }
 
 // The n packets of an accepted stream.
@@ -93,7 +80,7 @@ fn show(s: &[u8]) {
 
 fn main() {
     let mut buffer = [0u8; 65537];
-    let n = io::read_full(STDIN_FILENO, &mut buffer);
+    let n = console::take(&mut buffer);
     if 65536 < n {
         print_refusal(plate::ROOM, 0);
         return;

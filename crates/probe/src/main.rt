@@ -1,173 +1,123 @@
 // Answers requests on standard input, a line each, until the input ends or a request is malformed: docs/PROBE.md.
-// The functions of its modules serve this program alone: they are proved safe and to end, and what they print is compared.
-mod line;
-mod read;
-mod records;
-mod write;
-
-use libc::STDIN_FILENO;
+// What it prints is compared, not proved: it is proved safe and to end, and so are the libraries that serve it alone, `probe_` and a name.
 use libc::STDOUT_FILENO;
 
-// How many bytes a function's numbers take; 32 for none of the table.
-fn numbers_of(function: u8) -> usize {
-    match function {
-        6 | 9 => 0,
-        1 | 5 | 8 | 11 | 15 => 8,
-        2 | 3 | 4 | 7 | 10 | 12 | 14 => 16,
-        13 => 24,
-        _ => 32,
-    }
-}
-
-// The k-th number.
-fn word(head: &[u8; 24], k: usize) -> u64 {
-    if k < 3 {
-        return number::le_at(head, 8 * k, 8) as u64;
-    }
-    0
-}
-
-// A byte string's length; 65,537 where it is over 65,536 or the input ends.
-fn length() -> usize {
-    let mut head = [0u8; 4];
-    let got = io::read_full(STDIN_FILENO, &mut head);
-    if got < 4 {
-        return 65537;
-    }
-    let n = number::le_at(&head, 0, 4);
+// The name of a track by two maps: the second is still to be read.
+fn two(out: &mut [u8], x: u64, a: &[u8]) -> usize {
+    let mut b = [0u8; 65536];
+    let n = probe_request::string(&mut b);
     if 65536 < n {
-        return 65537;
+        return 0;
     }
-    n
+    probe_text::name_of_two(out, a, &b[0..n], x as usize)
 }
 
-// A byte string into a lent buffer, if there is to be one: its length, or 65,537.
-fn take(buffer: &mut [u8], wanted: bool) -> usize {
-    if wanted {
-        let n = length();
-        if buffer.len() < n {
-            return 65537;
-        }
-        let got = io::read_full(STDIN_FILENO, &mut buffer[0..n]);
-        if got < n {
-            return 65537;
-        }
-        return n;
+// The tracks' words are still to be read.
+fn three(out: &mut [u8], x: u64, y: u64, a: &[u8], b: &[u8]) -> usize {
+    let mut c = [0u8; 65536];
+    let n = probe_request::string(&mut c);
+    if 65536 < n {
+        return 0;
     }
-    0
+    probe_write::map(out, a, b, &c[0..n], x as usize, y as usize)
 }
 
-fn writers(
-    out: &mut [u8],
-    function: u8,
-    x: u64,
-    y: u64,
-    z: u64,
-    a: &[u8],
-    b: &[u8],
-    c: &[u8],
-) -> usize {
-    if function == 11 {
-        return write::build(out, a, x as usize);
+// The map writer: the material's words and the tracks' are still to be read.
+fn write_map(out: &mut [u8], x: u64, y: u64, a: &[u8]) -> usize {
+    let mut b = [0u8; 65536];
+    let n = probe_request::string(&mut b);
+    if 65536 < n {
+        return 0;
     }
-    if function == 13 {
-        return write::locator(out, a, x as usize, y as usize, z);
+    three(out, x, y, a, &b[0..n])
+}
+
+fn writers(out: &mut [u8], function: u8, x: u64, y: u64, z: u64, a: &[u8]) -> usize {
+    match function {
+        11 => probe_stream::build(out, a, x as usize),
+        13 => probe_write::locator(out, a, x as usize, y as usize, z),
+        _ => write_map(out, x, y, a),
     }
-    write::map(out, a, b, c, x as usize, y as usize)
 }
 
 fn streams(out: &mut [u8], function: u8, x: u64, y: u64, a: &[u8]) -> usize {
     match function {
-        7 => read::position(out, a, x as usize, y),
-        8 => read::media(out, a, x as usize),
-        9 => read::check(out, a),
-        10 => read::seek(out, a, x, y),
-        12 => read::lookup(out, a, x, y),
-        _ => read::walk(out, a, x as usize),
+        7 => probe_packet::position(out, a, x as usize, y),
+        8 => probe_packet::media(out, a, x as usize),
+        9 => probe_stream::check(out, a),
+        10 => probe_stream::seek(out, a, x, y),
+        12 => probe_stream::lookup(out, a, x, y),
+        _ => probe_packet::walk(out, a, x as usize),
     }
 }
 
-fn maps<'a>(out: &mut [u8], function: u8, x: u64, y: u64, a: &'a [u8], b: &'a [u8]) -> usize {
+fn maps(out: &mut [u8], function: u8, x: u64, y: u64, a: &[u8]) -> usize {
     match function {
-        1 => read::header(out, a, x as usize),
-        2 => read::of_type(out, a, x as usize, y as usize),
-        3 => records::map(out, a, x as usize, y as usize),
-        4 => read::name(out, a, x as usize, y as usize),
-        5 => read::name_of_two(out, a, b, x as usize),
-        _ => read::text(out, a),
+        1 => probe_packet::header(out, a, x as usize),
+        2 => probe_packet::of_type(out, a, x as usize, y as usize),
+        3 => probe_map::map(out, a, x as usize, y as usize),
+        4 => probe_text::name(out, a, x as usize, y as usize),
+        5 => two(out, x, a),
+        _ => probe_text::text(out, a),
     }
 }
 
-// The line for a request, without its end: its length, or 0 where the request is malformed.
-fn answer<'a>(
-    out: &mut [u8],
-    function: u8,
-    x: u64,
-    y: u64,
-    z: u64,
-    a: &'a [u8],
-    b: &'a [u8],
-    c: &[u8],
-) -> usize {
+// The line for a request whose first byte string is read, without its end: its length, or 0 where the request is malformed.
+fn answer(out: &mut [u8], function: u8, x: u64, y: u64, z: u64, a: &[u8]) -> usize {
     match function {
-        1..=6 => maps(out, function, x, y, a, b),
-        11 | 13 | 14 => writers(out, function, x, y, z, a, b, c),
+        1..=6 => maps(out, function, x, y, a),
+        11 | 13 | 14 => writers(out, function, x, y, z, a),
         _ => streams(out, function, x, y, a),
     }
 }
 
-fn strings(out: &mut [u8], function: u8, x: u64, y: u64, z: u64) -> usize {
+fn one(out: &mut [u8], function: u8, x: u64, y: u64, z: u64) -> usize {
     let mut a = [0u8; 65536];
-    let n = take(&mut a, true);
+    let n = probe_request::string(&mut a);
     if 65536 < n {
         return 0;
     }
-    let mut b = [0u8; 65536];
-    let m = take(&mut b, function == 5 || function == 14);
-    if 65536 < m {
-        return 0;
-    }
-    let mut c = [0u8; 65536];
-    let l = take(&mut c, function == 14);
-    if 65536 < l {
-        return 0;
-    }
-    answer(out, function, x, y, z, &a[0..n], &b[0..m], &c[0..l])
+    answer(out, function, x, y, z, &a[0..n])
 }
 
 fn request(out: &mut [u8], function: u8) -> usize {
-    let want = numbers_of(function);
+    let want = probe_request::numbers_of(function);
     if 24 < want {
         return 0;
     }
     let mut head = [0u8; 24];
-    let got = io::read_full(STDIN_FILENO, &mut head[0..want]);
+    let got = console::take(&mut head[0..want]);
     if got < want {
         return 0;
     }
-    let x = word(&head, 0);
-    let y = word(&head, 1);
-    let z = word(&head, 2);
-    strings(out, function, x, y, z)
+    let x = probe_request::word(&head, 0);
+    let y = probe_request::word(&head, 1);
+    let z = probe_request::word(&head, 2);
+    one(out, function, x, y, z)
+}
+
+// Writes a line of n bytes with its end; whether it was written.
+fn write_line(out: &mut [u8], n: usize) -> bool {
+    let k = probe_line::say(out, n, b"\n");
+    if out.len() < k {
+        return false;
+    }
+    io::write_all(STDOUT_FILENO, &out[0..k])
 }
 
 // Answers the next request; whether to go on.
 fn serve(out: &mut [u8]) -> bool {
     let mut function = [0u8; 1];
-    let got = io::read_full(STDIN_FILENO, &mut function);
+    let got = console::take(&mut function);
     if got < 1 {
         return false;
     }
     let n = request(out, function[0]);
     if n == 0 {
-        io::write_all(STDOUT_FILENO, b"malformed\n");
+        console::say(b"malformed\n");
         return false;
     }
-    let k = line::say(out, n, b"\n");
-    if out.len() < k {
-        return false;
-    }
-    io::write_all(STDOUT_FILENO, &out[0..k])
+    write_line(out, n)
 }
 
 fn main() {

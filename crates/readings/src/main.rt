@@ -2,44 +2,16 @@
 use answer::Code;
 use answer::Material;
 use answer::Value;
-use libc::STDOUT_FILENO;
+use console::figure;
+use console::load;
+use console::refused;
+use console::say;
 use map::MapAnswer;
 use map::TrackAnswer;
 use mpeg::MpegAnswer;
 use parameter::ParameterValue;
 use stream::CheckAnswer;
 use stream::SeekAnswer;
-ghost use Prim.Native.Nat.{_≤_};
-ghost use lib.ListN.{length};
-
-fn say(text: &[u8]) {
-    io::write_all(STDOUT_FILENO, text);
-}
-
-fn figure(n: u64) {
-    say(b" ");
-    io::print_decimal(STDOUT_FILENO, n);
-}
-
-fn refused(n: u8, place: usize) {
-    say(b"refused");
-    figure(n as u64);
-    figure(place as u64);
-}
-
-// A file's first bytes; none where it cannot be read.
-fn load(path: &[u8], buffer: &mut [u8]) -> usize
-    ensures { λ r. ⌜ r ≤ length (now (buffer .entry)) ⌝ }
-{
-    let file = os::open_read(path);
-    if file < 0 {
-        os::fail(path);
-        return 0;
-    }
-    let n = io::read_full(file, buffer);
-    libc::close(file);
-    n
-}
 
 fn show_check(s: &[u8]) {
     match stream::check(s) {
@@ -183,15 +155,6 @@ fn check_file(path: &[u8]) {
     show_check(&buffer[0..n]);
 }
 
-// A float's bits; of what is no number, which the library gives nowhere, 0.
-fn bits_of(x: f64) -> u64 {
-    if x == x {
-        let n = f64::to_bits(x);
-        return n;
-    }
-    0
-}
-
 // The rate of an auxiliary text, its bits held to those that were computed outside.
 fn show_rate(text: &[u8], want: u64) {
     match mpeg::read(text) {
@@ -199,7 +162,7 @@ fn show_rate(text: &[u8], want: u64) {
             let br = p.br;
             match br {
                 ParameterValue::Rate(x) => {
-                    if bits_of(x) == want {
+                    if console::bits_of(x) == want {
                         say(b"the float computed outside\n");
                         return;
                     }

@@ -4,35 +4,14 @@ use answer::Code;
 use answer::Material;
 use answer::Track;
 use answer::Value;
+use console::say;
 use items::Part;
-use libc::STDOUT_FILENO;
 use map::MapAnswer;
 use map::TrackAnswer;
 use packet::PacketAnswer;
-ghost use Prim.Native.Nat.{_≤_};
-ghost use lib.ListN.{length};
-
-fn say(text: &[u8]) {
-    io::write_all(STDOUT_FILENO, text);
-}
 
 fn figure(n: usize) {
-    say(b" ");
-    io::print_decimal(STDOUT_FILENO, n as u64);
-}
-
-// A file's first bytes; none where it cannot be read.
-fn load(path: &[u8], buffer: &mut [u8]) -> usize
-    ensures { λ r. ⌜ r ≤ length (now (buffer .entry)) ⌝ }
-{
-    let file = os::open_read(path);
-    if file < 0 {
-        os::fail(path);
-        return 0;
-    }
-    let n = io::read_full(file, buffer);
-    libc::close(file);
-    n
+    console::figure(n as u64);
 }
 
 // Whether n bytes from a place of p on are those from a place of q on; they have to lie in them.
@@ -241,9 +220,8 @@ fn show_count(p: &[u8]) {
             say(b" tracks");
         }
         MapAnswer::Refused(r) => {
-            say(b" refused");
-            figure(number::wide(r.number));
-            figure(r.place);
+            say(b" ");
+            console::refused(r.number, r.place);
         }
     }
 }
@@ -297,7 +275,7 @@ fn show_pairs(kind: &[u8], s: &[u8]) {
 
 fn show_file(path: &[u8], kind: &[u8]) {
     let mut buffer = [0u8; 131072];
-    let n = load(path, &mut buffer);
+    let n = console::load(path, &mut buffer);
     say(path);
     say(b"\n");
     show_pairs(kind, &buffer[0..n]);

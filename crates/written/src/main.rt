@@ -1,25 +1,15 @@
 // The writers at work, and their bench readings: the map M written from words and read back, a field number of 33 bits, a place beyond all buffers, and a locator table.
 use answer::Material;
 use answer::Value;
-use libc::STDOUT_FILENO;
+use console::figure;
+use console::say;
 use locator::PositionAnswer;
 use map::MapAnswer;
 use map::TrackAnswer;
 use packet_writer::WriteAnswer;
 
-fn say(text: &[u8]) {
-    io::write_all(STDOUT_FILENO, text);
-}
-
-fn figure(n: u64) {
-    say(b" ");
-    io::print_decimal(STDOUT_FILENO, n);
-}
-
 fn refused(n: u8, place: usize) {
-    say(b"refused");
-    figure(n as u64);
-    figure(place as u64);
+    console::refused(n, place);
     say(b"\n");
 }
 
