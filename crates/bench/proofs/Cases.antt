@@ -25,7 +25,8 @@ use Rattle.mpeg.specs.Lines as lines
 use Rattle.mpeg.specs.Read as mpeg
 use Rattle.mpeg.specs.declared.MpegAnswer.{MpegAnswer}
 use Rattle.mpeg.specs.declared.MpegAnswer.the-variants as mpeg-answer
-use Rattle.bench.proofs.Table.{Reading, Agree, saying}
+use Rattle.bench.proofs.Table.{Reading, Agree}
+use Rattle.map.proofs.Samples.{saying}
 
 -- a map packet of a length and a payload
 abbrev framed : ℕ → ℕ → List ℕ → List ℕ

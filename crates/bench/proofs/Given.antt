@@ -63,7 +63,7 @@ use Rattle.mpeg.proofs.read.Kinds as mpeg-kinds
 use Rattle.mpeg.proofs.read.Reads as mpeg-reads
 use Rattle.parameter.specs.declared.ParameterValue.{ParameterValue}
 use Rattle.parameter.specs.declared.ParameterValue.the-variants as parameter-value
-use Rattle.bench.proofs.Table.{M}
+use Rattle.map.proofs.Samples.{M}
 use Rattle.bench.proofs.Streams.{S, mute, unlent, B, room, carrying, computed, bytes-needed}
 use Rattle.bench.proofs.Pairs.{located, N, bare, other, pairs}
 use Rattle.mpeg.proofs.Worked.{text}

@@ -33,7 +33,7 @@ use Rattle.mpeg.specs.Read as mpeg
 use Rattle.mpeg.specs.declared.MpegAnswer.{MpegAnswer}
 use Rattle.mpeg.specs.declared.MpegAnswer.the-variants as mpeg-answer
 use Rattle.mpeg.proofs.Worked.{text}
-use Rattle.bench.proofs.Table.{headed, M}
+use Rattle.map.proofs.Samples.{headed, M}
 use Rattle.bench.proofs.Streams.{carrying}
 
 -- an FLT of a step with one entry, both under 256

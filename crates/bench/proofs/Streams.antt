@@ -22,7 +22,7 @@ use Rattle.book.specs.Book as book
 use Rattle.book.specs.declared.LookupAnswer.the-variants as lookup
 use Rattle.book_builder.specs.BookBuilder as builder
 use Rattle.book_builder.specs.declared.BuildAnswer.the-variants as build
-use Rattle.bench.proofs.Table.{headed, M}
+use Rattle.map.proofs.Samples.{headed, M}
 
 -- a media packet of track 1, type 10, with a field number under 256
 abbrev pub carrying : ℕ → List ℕ

@@ -21,17 +21,16 @@ use Rattle.items.specs.Judge as judge
 use Rattle.items.specs.Find as find
 use Rattle.items.specs.declared.Part.the-variants as part
 use Rattle.answer.specs.Answer as answer
-use Rattle.answer.specs.declared.Value.{Value}
 use Rattle.answer.specs.declared.Value.the-variants as value
 use Rattle.answer.specs.declared.Code.{Code}
 use Rattle.answer.specs.declared.Code.the-variants as code
 use Rattle.track_section.specs.Tracks as tracks
 use Rattle.map.specs.Map as map
-use Rattle.map.specs.declared.MapSays.{MapSays}
 use Rattle.map.specs.declared.MapAnswer.{MapAnswer}
 use Rattle.map.specs.declared.MapAnswer.the-variants as map-answer
 use Rattle.map.specs.declared.TrackAnswer.{TrackAnswer}
 use Rattle.map.specs.declared.TrackAnswer.the-variants as track-answer
+use Rattle.map.proofs.Samples.{headed, upToRate, M, newer, reserved, saying}
 use Rattle.name.specs.Name as name
 use Rattle.locator.specs.Locator as locator
 use Rattle.locator.specs.declared.PositionAnswer.{PositionAnswer}
@@ -62,51 +61,12 @@ abbrev pub Agree : List Reading → Type 0
 Agree [] = Unit {0}
 Agree (r ∷ rs) = (r .gives ≡ r .says) × Agree rs
 
--- a header of a type and a length under 256
-abbrev pub headed : ℕ → ℕ → List ℕ
-headed kind len = 0 ∷ 0 ∷ 0 ∷ 0 ∷ 1 ∷ kind ∷ 0 ∷ 0 ∷ 0 ∷ len ∷ 0 ∷ 0 ∷ 0 ∷ 0 ∷ 0xE1 ∷ 0xE2 ∷ []
-
--- the bench map: its payload's front, with the track section's length and the track's, and its rate item
-abbrev pub upToRate : ℕ → ℕ → List ℕ
-upToRate section track =
-    0xE0 ∷ 0xFF ∷ 0x00 ∷ 0x06 ∷ 0x41 ∷ 0x04 ∷ 0x00 ∷ 0x00 ∷ 0x00 ∷ 0x00 ∷ 0x00 ∷ section ∷ 0x8A ∷ 0xC1 ∷ 0x00 ∷ track ∷ 0x4C ∷ 0x03 ∷ 0x41 ∷ 0x31 ∷ 0x00 ∷ []
-
-abbrev rateItem : ℕ → ℕ → List ℕ
-rateItem high low = 0x50 ∷ 0x04 ∷ high ∷ high ∷ high ∷ low ∷ []
-
-abbrev pub M : List ℕ
-M = headed 0xBC 0x2C ++ upToRate 0x0F 0x0B ++ rateItem 0xFF 0xFE ++ (0 ∷ [])
-
--- with `7E 01 55` after the rate
-abbrev pub newer : List ℕ
-newer = headed 0xBC 0x30 ++ upToRate 0x12 0x0E ++ rateItem 0xFF 0xFE ++ (0x7E ∷ 0x01 ∷ 0x55 ∷ 0 ∷ 0 ∷ [])
-
--- with rate 9
-abbrev pub reserved : List ℕ
-reserved = headed 0xBC 0x2C ++ upToRate 0x0F 0x0B ++ rateItem 0x00 0x09 ++ (0 ∷ [])
-
 -- with 50 of length 3, nothing else changed
 abbrev shorter : List ℕ
 shorter = headed 0xBC 0x2C ++ upToRate 0x0F 0x0B ++ (0x50 ∷ 0x03 ∷ 0xFF ∷ 0xFF ∷ 0xFF ∷ 0xFE ∷ 0 ∷ [])
 
 abbrev header : List ℕ → PacketAnswer → Reading
 header s a = record { Answer = PacketAnswer; gives = headerAt s 0; says = a }
-
--- what a map says that lists so many tracks and has no material item but, perhaps, a first field
-abbrev pub saying : ℕ → Value → MapSays
-saying n field =
-    record {
-      count = n;
-      material =
-          record {
-            name = part.Absent;
-            first = field;
-            last = value.Absent;
-            «mark_in» = value.Absent;
-            «mark_out» = value.Absent;
-            size = value.Absent;
-          };
-    }
 
 -- a map's answer: one listed track, first field 0
 abbrev firstField0 : MapAnswer

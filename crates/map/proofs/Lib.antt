@@ -6,4 +6,5 @@ pub mod Numbers
 pub mod Once
 pub mod Parts
 pub mod Said
+pub mod Samples
 pub mod Within

@@ -29,7 +29,7 @@ use Rattle.map.specs.Shown.{nothing, bytes, Shown, shownIn}
 use Rattle.map.specs.Said as said
 use Rattle.map.specs.declared.MapSays.{MapSays}
 use Rattle.map.specs.Map.{mapAt}
-use Rattle.bench.proofs.Table.{headed, upToRate, M, newer, reserved, saying}
+use Rattle.map.proofs.Samples.{headed, upToRate, M, newer, reserved, saying}
 use Rattle.name.specs.declared.NameAnswer.{NameAnswer}
 use Rattle.answer.specs.declared.Track.{Track}
 use Rattle.plate.specs.Plate.{refusal}
