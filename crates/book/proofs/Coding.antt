@@ -10,7 +10,7 @@ use lib.Seq.{getD-append-add, drop-append-seam}
 use borrow.Author.Tests.{lt-ltb, le-ltb}
 use Rattle.number.specs.Number.{le, leBytes}
 use Rattle.number.proofs.Laws.{le-drop, le-back}
-use Rattle.book.specs.Book.{recordBytes, bytesOf, slotAt, holds, bookFrom, bookOf, lookupIn, lookupOf}
+use Rattle.book.specs.Book.{recordBytes, bookBytes, recordAt, holds, bookFrom, bookOf, lookupIn, lookupOf}
 use Rattle.book.specs.declared.Entry.{Entry}
 
 -- a field number of 32 bits and an offset of 64
@@ -26,45 +26,45 @@ pub length-record : (e : Entry) → length (recordBytes e) ≡ 16
 unfolding recordBytes leBytes
 length-record e = refl
 
-pub length-bytes : (es : List Entry) → length (bytesOf es) ≡ 16 * length es
-unfolding bytesOf
+pub length-bytes : (es : List Entry) → length (bookBytes es) ≡ 16 * length es
+unfolding bookBytes
 length-bytes [] = refl
-length-bytes (e ∷ es) = length-append (recordBytes e) (bytesOf es) ∙ omega (arith, length-record e, length-bytes es)
+length-bytes (e ∷ es) = length-append (recordBytes e) (bookBytes es) ∙ omega (arith, length-record e, length-bytes es)
 
 le-after : (p s : List ℕ) (at n : ℕ) → le (p ++ s) (length p + at) n ≡ le s at n
 le-after p s at n = sym (le-drop (length p) (p ++ s) at n) ∙ rw (drop-append-seam p s)
 
 -- what stands behind other bytes
-slot-after : (p s : List ℕ) → slotAt (p ++ s) (length p) ≡ slotAt s 0
-unfolding slotAt
+slot-after : (p s : List ℕ) → recordAt (p ++ s) (length p) ≡ recordAt s 0
+unfolding recordAt
 slot-after p s =
     let a : length (p ++ s) - length p ≡ length s - 0 = omega (arith, length-append p s) in
     let b : getD (p ++ s) (length p) 0 ≡ getD s 0 0 = rw add-zero at (getD-append-add p s 0 0) in
     rw (a, b, getD-append-add p s 1 0, getD-append-add p s 2 0, getD-append-add p s 3 0, le-after p s 4 4, le-after p s 8 8)
 
-slot-back : (e : Entry) (t : List ℕ) → Fit e → slotAt (recordBytes e ++ t) 0 ≡ holds e
-unfolding slotAt recordBytes leBytes
+slot-back : (e : Entry) (t : List ℕ) → Fit e → recordAt (recordBytes e ++ t) 0 ≡ holds e
+unfolding recordAt recordBytes leBytes
 slot-back e t h =
-    let a : le (recordBytes e ++ t) 4 4 ≡ e .field = le-back (0x47 ∷ 0x58 ∷ e .track ∷ e .kind ∷ []) 4 (e .field) (leBytes 8 (e .at) ++ t) (h .field) in
-    let b : le (recordBytes e ++ t) 8 8 ≡ e .at = le-back (0x47 ∷ 0x58 ∷ e .track ∷ e .kind ∷ leBytes 4 (e .field)) 8 (e .at) t (h .at) in
+    let a : le (recordBytes e ++ t) 4 4 ≡ e .field = le-back (0x47 ∷ 0x58 ∷ e .track ∷ e .«media_type» ∷ []) 4 (e .field) (leBytes 8 (e .at) ++ t) (h .field) in
+    let b : le (recordBytes e ++ t) 8 8 ≡ e .at = le-back (0x47 ∷ 0x58 ∷ e .track ∷ e .«media_type» ∷ leBytes 4 (e .field)) 8 (e .at) t (h .at) in
     rw (le-ltb (length (recordBytes e ++ t) - 0) 16 (omega (arith, length-append (recordBytes e) t)), a, b)
 
-back : (es : List Entry) (p : List ℕ) (f : ℕ) → AllFit es → length es < f → bookFrom (p ++ bytesOf es) f (length p) ≡ record { entries = es; whole = true }
-unfolding bytesOf bookFrom AllFit
+back : (es : List Entry) (p : List ℕ) (f : ℕ) → AllFit es → length es < f → bookFrom (p ++ bookBytes es) f (length p) ≡ record { entries = es; whole = true }
+unfolding bookBytes bookFrom AllFit
 back es p zero h k = absurd (omega arith)
 back [] p (suc f) h k = rw (append-nil, le-ltb (length p) (length p) (omega arith))
 back (e ∷ es) p (suc f) h k =
-    let a : length p < length (p ++ (recordBytes e ++ bytesOf es)) = omega (arith, length-append p (recordBytes e ++ bytesOf es), length-append (recordBytes e) (bytesOf es), length-record e) in
+    let a : length p < length (p ++ (recordBytes e ++ bookBytes es)) = omega (arith, length-append p (recordBytes e ++ bookBytes es), length-append (recordBytes e) (bookBytes es), length-record e) in
     let b : length (p ++ recordBytes e) ≡ length p + 16 = omega (arith, length-append p (recordBytes e), length-record e) in
     let i = rw (b, append-assoc) at (back es (p ++ recordBytes e) f (h .1) (omega arith)) in
-    rw (lt-ltb _ _ a, slot-after p (recordBytes e ++ bytesOf es), slot-back e (bytesOf es) (h .0), i)
+    rw (lt-ltb _ _ a, slot-after p (recordBytes e ++ bookBytes es), slot-back e (bookBytes es) (h .0), i)
 
 -- decoding what was encoded gives the entries
-pub book-back : (es : List Entry) → AllFit es → bookOf (bytesOf es) ≡ record { entries = es; whole = true }
+pub book-back : (es : List Entry) → AllFit es → bookOf (bookBytes es) ≡ record { entries = es; whole = true }
 unfolding bookOf
-book-back es h = back es [] (suc (length (bytesOf es))) h (omega (arith, length-bytes es))
+book-back es h = back es [] (suc (length (bookBytes es))) h (omega (arith, length-bytes es))
 
 -- lookup in encoded entries is lookup in the entries
-pub lookup-back : (es : List Entry) (track field : ℕ) → AllFit es → lookupOf (bytesOf es) track field ≡ lookupIn (record { entries = es; whole = true }) track field
+pub lookup-back : (es : List Entry) (track field : ℕ) → AllFit es → lookupOf (bookBytes es) track field ≡ lookupIn (record { entries = es; whole = true }) track field
 unfolding lookupOf
 lookup-back es track field h = rw (book-back es h)

@@ -13,7 +13,7 @@ use Rattle.plate.proofs.Tests.{no-choice}
 use Rattle.number.specs.Number.{le}
 use Rattle.number.proofs.Laws.{Bytes, le-four}
 use Rattle.media_type.specs.MediaType.{knownType}
-use Rattle.book.specs.Book.{Book, ends, onSlot, Slot, broken, holds, slotAt, bookFrom, bookOf, bookAt, risesAt, stands, soundHead, judge, Verdict, bad, good, verdictFrom, isOf, firstIn, orNotThere, Found, nothing, there, ifGood, lookupOf}
+use Rattle.book.specs.Book.{Book, ends, onSlot, Slot, broken, holds, recordAt, bookFrom, bookOf, bookAt, risesAt, stands, soundHead, judgeBook, Verdict, bad, good, verdictFrom, isOf, firstIn, orNotThere, Offset, nothing, there, ifGood, lookupOf}
 use Rattle.book.specs.declared.Entry.{Entry}
 use Rattle.book.specs.declared.LookupAnswer.{LookupAnswer}
 use Rattle.book.specs.declared.LookupAnswer.the-variants as lookup
@@ -26,7 +26,7 @@ fuel s (suc f) zero at h k = absurd (omega arith)
 fuel s (suc f) (suc g) at h k = go (fuel s f g (at + 16)) (ltb at (length s)) refl
   where
     go : (length s - (at + 16) < f → length s - (at + 16) < g → bookFrom s f (at + 16) ≡ bookFrom s g (at + 16)) → (b : Bool) → ltb at (length s) ≡ b
-        → pick b (onSlot (bookFrom s f (at + 16)) (slotAt s at)) (ends true) ≡ pick b (onSlot (bookFrom s g (at + 16)) (slotAt s at)) (ends true)
+        → pick b (onSlot (bookFrom s f (at + 16)) (recordAt s at)) (ends true) ≡ pick b (onSlot (bookFrom s g (at + 16)) (recordAt s at)) (ends true)
     go again true q = let l = ltb-true at (length s) q in rw (again (omega arith) (omega arith))
     go again false q = refl
 
@@ -40,7 +40,7 @@ module _ (s : List ℕ) (n : ℕ) where
   unfolding bookFrom
   out h = rw (le-ltb (n * 16) (length s) h)
 
-  pub turn : n * 16 < length s → bookAt s n ≡ onSlot (bookAt s (n + 1)) (slotAt s (n * 16))
+  pub turn : n * 16 < length s → bookAt s n ≡ onSlot (bookAt s (n + 1)) (recordAt s (n * 16))
   unfolding bookFrom
   turn h =
       let e : n * 16 + 16 ≡ (n + 1) * 16 = omega arith in
@@ -73,12 +73,12 @@ module _ (n last : ℕ) (e : Entry) where
 
 -- the entry that the bytes at a place say
 abbrev said : List ℕ → ℕ → Entry
-said s at = record { track = getD s (at + 2) 0; kind = getD s (at + 3) 0; field = le s (at + 4) 4; at = le s (at + 8) 8 }
+said s at = record { track = getD s (at + 2) 0; «media_type» = getD s (at + 3) 0; field = le s (at + 4) 4; at = le s (at + 8) 8 }
 
 -- by its first word and its offset: whether a record that is there may stand as record n
 pub seen : (s : List ℕ) → Bytes s → (at n last : ℕ) → at + 16 ≤ length s
-    → standing n last (slotAt s at) ≡ pick (soundHead (le s at 4)) (risesAt n last (le s (at + 8) 8)) false
-unfolding slotAt soundHead stands
+    → standing n last (recordAt s at) ≡ pick (soundHead (le s at 4)) (risesAt n last (le s (at + 8) 8)) false
+unfolding recordAt soundHead stands
 seen s g at n last room =
     let w = le-four s at _ _ _ _ refl refl refl refl in
     let a : le s at 4 % 0x10000 ≡ getD s at 0 + getD s (at + 1) 0 * 0x100 = omega (arith, w, g at, g (at + 1), g (at + 2), g (at + 3)) in
@@ -100,7 +100,7 @@ seen s g at n last room =
 module _ (s : List ℕ) (n last : ℕ) where
   -- behind the last record: nothing, or too few bytes
   pub at-end : length s ≤ n * 16 → verdictFrom s n last ≡ good
-  unfolding judge
+  unfolding judgeBook
   at-end h = rw (out s n h)
 
   pub none-at-end : (track field : ℕ) → length s ≤ n * 16 → firstIn track field (bookAt s n .entries) ≡ nothing
@@ -108,25 +108,25 @@ module _ (s : List ℕ) (n last : ℕ) where
   none-at-end track field h = rw (out s n h)
 
   module _ (h : n * 16 < length s) where
-    pub fault : standing n last (slotAt s (n * 16)) ≡ false → verdictFrom s n last ≡ bad n
-    unfolding judge
-    fault f = rw (turn s n h) (go (slotAt s (n * 16)) f)
+    pub fault : standing n last (recordAt s (n * 16)) ≡ false → verdictFrom s n last ≡ bad n
+    unfolding judgeBook
+    fault f = rw (turn s n h) (go (recordAt s (n * 16)) f)
       where
-        go : (x : Slot) → standing n last x ≡ false → judge n last (onSlot (bookAt s (n + 1)) x .entries) (onSlot (bookAt s (n + 1)) x .whole) ≡ bad n
+        go : (x : Slot) → standing n last x ≡ false → judgeBook n last (onSlot (bookAt s (n + 1)) x .entries) (onSlot (bookAt s (n + 1)) x .whole) ≡ bad n
         go broken f = refl
         go (holds e) f = rw f
 
     pub torn : length s < n * 16 + 16 → verdictFrom s n last ≡ bad n
-    unfolding slotAt
+    unfolding recordAt
     torn k = fault (rw (lt-ltb (length s - n * 16) 16 (omega arith)))
 
-    module _ (f : standing n last (slotAt s (n * 16)) ≡ true) where
-      here : slotAt s (n * 16) ≡ holds (said s (n * 16))
-      unfolding slotAt
+    module _ (f : standing n last (recordAt s (n * 16)) ≡ true) where
+      here : recordAt s (n * 16) ≡ holds (said s (n * 16))
+      unfolding recordAt
       here = kept n last (said s (n * 16)) (ltb (length s - n * 16) 16) (eqb (getD s (n * 16) 0) 0x47) (eqb (getD s (n * 16 + 1) 0) 0x58) f
 
       pub next : verdictFrom s n last ≡ verdictFrom s (n + 1) (le s (n * 16 + 8) 8)
-      unfolding judge
+      unfolding judgeBook
       next = let q : stands n last (said s (n * 16)) ≡ true = rw here at f in rw (turn s n h, here, q)
 
       pub first : (track field : ℕ) → firstIn track field (bookAt s n .entries)
@@ -140,7 +140,7 @@ module _ (s : List ℕ) (g : Bytes s) (n last : ℕ) (room : n * 16 + 16 ≤ len
       → lookup.Refused (refusal 23 n) ≡ ifGood (verdictFrom s n last) a
   is-bad a q = rw (fault s n last (omega arith) (seen s g (n * 16) n last room ∙ q))
 
-  pub may-stand : soundHead (le s (n * 16) 4) ≡ true → risesAt n last (le s (n * 16 + 8) 8) ≡ true → standing n last (slotAt s (n * 16)) ≡ true
+  pub may-stand : soundHead (le s (n * 16) 4) ≡ true → risesAt n last (le s (n * 16 + 8) 8) ≡ true → standing n last (recordAt s (n * 16)) ≡ true
   may-stand p q = seen s g (n * 16) n last room ∙ rw (p, q)
 
 -- what is left to do from record n on, with none found yet
@@ -160,7 +160,7 @@ on-end s n last a b e f = go (eqb (length s % 16) 0) refl
     go true q = let z = eqb-true (length s % 16) 0 q in rw (at-end s n last (omega arith)) (f (omega arith))
     go false q = let z = eqb-false (length s % 16) 0 q in rw (torn s n last (omega arith) (omega arith))
 
-module _ (s : List ℕ) (track field n last : ℕ) (room : n * 16 + 16 ≤ length s) (f : standing n last (slotAt s (n * 16)) ≡ true) where
+module _ (s : List ℕ) (track field n last : ℕ) (room : n * 16 + 16 ≤ length s) (f : standing n last (recordAt s (n * 16)) ≡ true) where
   on-next : isOf track field (said s (n * 16)) ≡ false → answerFrom s track field n last ≡ answerFrom s track field (n + 1) (le s (n * 16 + 8) 8)
   on-next q = rw (next s n last (omega arith) f, first s n last (omega arith) f track field, q)
 

@@ -14,11 +14,11 @@ use Rattle.book.specs.declared.LookupAnswer.the-variants as lookup
 
 -- the encoder: mark 47 58, ID, type, field number (32), packet offset (64), least significant first; 16 bytes. It is for a field number under 2^32 and an offset under 2^64: more would be cut
 unfoldable pub recordBytes : Entry → List ℕ
-recordBytes e = 0x47 ∷ 0x58 ∷ e .track ∷ e .kind ∷ (leBytes 4 (e .field) ++ leBytes 8 (e .at))
+recordBytes e = 0x47 ∷ 0x58 ∷ e .track ∷ e .«media_type» ∷ (leBytes 4 (e .field) ++ leBytes 8 (e .at))
 
-unfoldable pub bytesOf : List Entry → List ℕ
-bytesOf [] = []
-bytesOf (e ∷ es) = recordBytes e ++ bytesOf es
+unfoldable pub bookBytes : List Entry → List ℕ
+bookBytes [] = []
+bookBytes (e ∷ es) = recordBytes e ++ bookBytes es
 
 -- what stands at a place: a record, or something else
 pub data Slot : Type 0 where
@@ -26,12 +26,12 @@ pub data Slot : Type 0 where
   holds : Entry → Slot
 
 -- the decoder: what stands at a place, a record where 16 bytes with the marks are there; a short tail and a wrong mark are both no record
-unfoldable pub slotAt : List ℕ → ℕ → Slot
-slotAt s at =
+unfoldable pub recordAt : List ℕ → ℕ → Slot
+recordAt s at =
     pick (ltb (length s - at) 16) broken
     (pick (eqb (getD s at 0) 0x47)
     (pick (eqb (getD s (at + 1) 0) 0x58)
-    (holds (record { track = getD s (at + 2) 0; kind = getD s (at + 3) 0; field = le s (at + 4) 4; at = le s (at + 8) 8 }))
+    (holds (record { track = getD s (at + 2) 0; «media_type» = getD s (at + 3) 0; field = le s (at + 4) 4; at = le s (at + 8) 8 }))
     broken)
     broken)
 
@@ -50,7 +50,7 @@ onSlot rest (holds e) = record { entries = e ∷ rest .entries; whole = rest .wh
 -- from a place on; f is more than the records that can follow
 unfoldable pub bookFrom : List ℕ → ℕ → ℕ → Book
 bookFrom s zero at = ends false
-bookFrom s (suc f) at = pick (ltb at (length s)) (onSlot (bookFrom s f (at + 16)) (slotAt s at)) (ends true)
+bookFrom s (suc f) at = pick (ltb at (length s)) (onSlot (bookFrom s f (at + 16)) (recordAt s at)) (ends true)
 
 unfoldable pub bookOf : List ℕ → Book
 bookOf s = bookFrom s (suc (length s)) 0
@@ -61,7 +61,7 @@ risesAt n last offset = pick (eqb n 0) true (ltb last offset)
 
 -- a record may stand as record n: an ID up to 63, a known type, an offset that rises
 unfoldable pub stands : ℕ → ℕ → Entry → Bool
-stands n last e = pick (ltb 63 (e .track)) false (pick (knownType (e .kind)) (risesAt n last (e .at)) false)
+stands n last e = pick (ltb 63 (e .track)) false (pick (knownType (e .«media_type»)) (risesAt n last (e .at)) false)
 
 -- a book is good, or bad, with the number of its lowest bad record
 pub data Verdict : Type 0 where
@@ -69,26 +69,26 @@ pub data Verdict : Type 0 where
   bad : ℕ → Verdict
 
 -- n records passed, the last at offset `last`: of two offsets that do not rise the later is bad; what is no record takes the number of those before it
-unfoldable pub judge : ℕ → ℕ → List Entry → Bool → Verdict
-judge n last [] whole = pick whole good (bad n)
-judge n last (e ∷ es) whole = pick (stands n last e) (judge (n + 1) (e .at) es whole) (bad n)
+unfoldable pub judgeBook : ℕ → ℕ → List Entry → Bool → Verdict
+judgeBook n last [] whole = pick whole good (bad n)
+judgeBook n last (e ∷ es) whole = pick (stands n last e) (judgeBook (n + 1) (e .at) es whole) (bad n)
 
 -- of a track and a field; that the type is known is what makes a record good
 abbrev pub isOf : ℕ → ℕ → Entry → Bool
 isOf track field e = pick (eqb (e .track) track) (eqb (e .field) field) false
 
 -- an offset, if there is one
-pub data Found : Type 0 where
-  nothing : Found
-  there : ℕ → Found
+pub data Offset : Type 0 where
+  nothing : Offset
+  there : ℕ → Offset
 
 -- the offset of the first entry of a track and field
-unfoldable pub firstIn : ℕ → ℕ → List Entry → Found
+unfoldable pub firstIn : ℕ → ℕ → List Entry → Offset
 firstIn track field [] = nothing
 firstIn track field (e ∷ es) = pick (isOf track field e) (there (e .at)) (firstIn track field es)
 
 -- the first entry of the track and field, or 16
-abbrev pub orNotThere : Found → LookupAnswer
+abbrev pub orNotThere : Offset → LookupAnswer
 orNotThere (there o) = lookup.At o
 orNotThere nothing = lookup.Refused (refusal 16 0)
 
@@ -98,7 +98,7 @@ ifGood (bad n) a = lookup.Refused (refusal 23 n)
 
 -- look-up (docs/DECISIONS.md, F16): 23 first, its place the number of the record; then the offset, or 16 at 0. The offset before record 0 is not looked at
 abbrev pub lookupIn : Book → ℕ → ℕ → LookupAnswer
-lookupIn b track field = ifGood (judge 0 0 (b .entries) (b .whole)) (orNotThere (firstIn track field (b .entries)))
+lookupIn b track field = ifGood (judgeBook 0 0 (b .entries) (b .whole)) (orNotThere (firstIn track field (b .entries)))
 
 unfoldable pub lookupOf : List ℕ → ℕ → ℕ → LookupAnswer
 lookupOf s track field = lookupIn (bookOf s) track field
@@ -112,4 +112,4 @@ abbrev pub bookAt : List ℕ → ℕ → Book
 bookAt s n = bookFrom s (suc (length s)) (n * 16)
 
 abbrev pub verdictFrom : List ℕ → ℕ → ℕ → Verdict
-verdictFrom s n last = judge n last (bookAt s n .entries) (bookAt s n .whole)
+verdictFrom s n last = judgeBook n last (bookAt s n .entries) (bookAt s n .whole)

@@ -12,7 +12,7 @@ ghost use Rattle.book.specs.Book.{soundHead, risesAt, ifGood, verdictFro
 // What a record says: a track ID, a media type, a field number and the offset of the packet that carries it.
 pub struct Entry {
     pub track: u8,
-    pub kind: u8,
+    pub media_type: u8,
     pub field: usize,
     pub at: usize,
 }

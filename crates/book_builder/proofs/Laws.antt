@@ -20,34 +20,34 @@ use Rattle.piece.specs.declared.Piece.{Piece}
 use Rattle.piece.specs.declared.PieceAnswer.{PieceAnswer}
 use Rattle.piece.specs.declared.PieceAnswer.the-variants as piece
 use Rattle.piece.proofs.Laws.{Told, told}
-use Rattle.order.specs.Order.{started, misplaced, overdue, unmapped, after, ending, stepOf}
+use Rattle.order.specs.Order.{started, misplaced, overdue, unmapped, progressAfter, ending, stepOf}
 use Rattle.order.specs.declared.Progress.{Progress}
 use Rattle.order.specs.declared.Step.{Step}
 use Rattle.order.specs.declared.Step.the-variants as step
-use Rattle.stream.specs.Stream.{Placed, Packets, closed, none, before, typesAfter, onPiece, packetsFrom, packets, onStep, stepAt, judge, checkOf}
+use Rattle.stream.specs.Stream.{Placed, Packets, closed, none, packetInFront, typesAfter, onPiece, packetsFrom, packets, onStep, stepAt, judgePackets, checkOf}
 use Rattle.stream.proofs.Laws.{turn, out}
 use Rattle.stream.specs.declared.CheckAnswer.the-variants as check
-use Rattle.book.specs.Book.{recordBytes, bytesOf}
+use Rattle.book.specs.Book.{recordBytes, bookBytes}
 use Rattle.book.specs.declared.Entry.{Entry}
 use Rattle.book.proofs.Coding.{length-bytes}
 use Rattle.book_builder.specs.BookBuilder.{recorded, entryOf, entriesHere, entriesOf, entriesIn, Accepted, Seeable, seenAt, buildAnswer, builtIn}
 use Rattle.book_builder.proofs.Seen.{seen}
 use Rattle.book_builder.specs.declared.BuildAnswer.the-variants as build
 
--- the packets from here on pass, after some progress
+-- the packets from here on pass, progressAfter some progress
 pub record Passing (s : List ℕ) (ps : Packets) : Type 0 where
   pub progress : Progress
   pub packets : ℕ
-  pub judged : judge (length s) progress (ps .list) (ps .end) ≡ check.Packets packets
+  pub judged : judgePackets (length s) progress (ps .list) (ps .end) ≡ check.Packets packets
 
 -- a stream does not end where bytes follow
 no-end : (p : Progress) (x : Piece) (at listed n : ℕ) → stepOf p x at listed true ≡ step.Ended n → ⊥
 unfolding stepOf ending
-no-end p x at listed n = go (misplaced (p .due) (p .flt) (x .role)) (overdue (p .since) (x .role)) (unmapped (x .role) (x .kind) listed) (eqb (x .role) 0xFB)
+no-end p x at listed n = go (misplaced (p .«eos_due») (p .flt) (x .«packet_type»)) (overdue (p .«since_map») (x .«packet_type»)) (unmapped (x .«packet_type») (x .«media_type») listed) (eqb (x .«packet_type») 0xFB)
   where
     go : (a b d f : Bool)
         → pick a (step.Refused (refusal 19 at))
-        (pick b (step.Refused (refusal 20 at)) (pick d (step.Refused (refusal 22 at)) (pick f (step.Refused (refusal 18 at)) (step.Next (after p (x .role)))))) ≡ step.Ended n
+        (pick b (step.Refused (refusal 20 at)) (pick d (step.Refused (refusal 22 at)) (pick f (step.Refused (refusal 18 at)) (step.Next (progressAfter p (x .«packet_type»)))))) ≡ step.Ended n
         → ⊥
     go true b d f e = let z : _≡_ {A = ℕ} 0 1 = cc in absurd (omega arith)
     go false true d f e = let z : _≡_ {A = ℕ} 0 1 = cc in absurd (omega arith)
@@ -57,20 +57,20 @@ no-end p x at listed n = go (misplaced (p .due) (p .flt) (x .role)) (overdue (p 
 
 -- of packets that pass, the first is whole, and where bytes follow it the rest pass
 passing-whole : (s : List ℕ) (at : ℕ) (types : List ℕ) (next : List ℕ → ℕ → Packets) (a : PieceAnswer) → Passing s (onPiece s at types next a) → (r : Refusal) → a ≡ piece.Refused r → ⊥
-unfolding judge
+unfolding judgePackets
 passing-whole s at types next a p r e = let j : check.Refused r ≡ check.Packets (p .packets) = rw e at (p .judged) in let z : _≡_ {A = ℕ} 0 1 = cc in absurd (omega arith)
 
-passing-next : (s : List ℕ) (x : Placed) (ps : Packets) → Passing s (before x ps) → x .at + x .piece .len < length s → Passing s ps
-unfolding judge
+passing-next : (s : List ℕ) (x : Placed) (ps : Packets) → Passing s (packetInFront x ps) → x .at + x .piece .len < length s → Passing s ps
+unfolding judgePackets
 passing-next s x ps p h = go (stepAt (length s) (p .progress) x) refl (p .judged)
   where
-    go : (t : Step) → stepAt (length s) (p .progress) x ≡ t → onStep (λ q. judge (length s) q (ps .list) (ps .end)) t ≡ check.Packets (p .packets) → Passing s ps
+    go : (t : Step) → stepAt (length s) (p .progress) x ≡ t → onStep (λ q. judgePackets (length s) q (ps .list) (ps .end)) t ≡ check.Packets (p .packets) → Passing s ps
     go (step.Next q) e j = record { progress = q; packets = p .packets; judged = j }
     go (step.Refused r) e j = absurd (let z : _≡_ {A = ℕ} 0 1 = cc in omega arith)
     go (step.Ended n) e j = absurd (no-end (p .progress) (x .piece) (x .at) (getD (x .types) (x .piece .track) 0) n (rw (lt-ltb (x .at + x .piece .len) (length s) h) at e))
 
 closed-fails : (s : List ℕ) → Passing s (none closed) → ⊥
-unfolding judge
+unfolding judgePackets
 closed-fails s p = let j = p .judged in let z : _≡_ {A = ℕ} 0 1 = cc in absurd (omega arith)
 
 -- the entries done, and what is left to do from an offset on
@@ -121,9 +121,9 @@ module _ (s : List ℕ) (at : ℕ) (done : List Entry) (l : Left s at done) wher
     is-told = told s at (l .first) x (whole-here .0)
 
     abbrev rest : Packets
-    rest = pick (eqb (x .role) 0xFB) (none closed) (packetsFrom s (l .fuel - 1) false (typesAfter s at x (l .types)) (at + x .len))
+    rest = pick (eqb (x .«packet_type») 0xFB) (none closed) (packetsFrom s (l .fuel - 1) false (typesAfter s at x (l .types)) (at + x .len))
 
-    here : packetsFrom s (l .fuel) (l .first) (l .types) at ≡ before (record { at = at; piece = x; types = typesAfter s at x (l .types) }) rest
+    here : packetsFrom s (l .fuel) (l .first) (l .types) at ≡ packetInFront (record { at = at; piece = x; types = typesAfter s at x (l .types) }) rest
     here = now-turn ∙ rw (whole-here .0)
 
     turned : entriesIn s ≡ done ++ entriesHere at x ++ entriesOf (rest .list)
@@ -138,7 +138,7 @@ module _ (s : List ℕ) (at : ℕ) (done : List Entry) (l : Left s at done) wher
     rest-passes k = passing-next s (record { at = at; piece = x; types = typesAfter s at x (l .types) }) rest (rw here at (l .passes h)) k
 
     -- EOS is the last packet, and its end the stream's
-    last : eqb (x .role) 0xFB ≡ true → length s ≤ at + x .len
+    last : eqb (x .«packet_type») 0xFB ≡ true → length s ≤ at + x .len
     last e = go (ltb (at + x .len) (length s)) refl
       where
         go : (b : Bool) → ltb (at + x .len) (length s) ≡ b → length s ≤ at + x .len
@@ -146,12 +146,12 @@ module _ (s : List ℕ) (at : ℕ) (done : List Entry) (l : Left s at done) wher
         go false q = ltb-false (at + x .len) (length s) q
 
     pub next : Left s (at + x .len) (done ++ entriesHere at x)
-    next = go (eqb (x .role) 0xFB) refl
+    next = go (eqb (x .«packet_type») 0xFB) refl
       where
         types : List ℕ
         types = typesAfter s at x (l .types)
 
-        go : (b : Bool) → eqb (x .role) 0xFB ≡ b → Left s (at + x .len) (done ++ entriesHere at x)
+        go : (b : Bool) → eqb (x .«packet_type») 0xFB ≡ b → Left s (at + x .len) (done ++ entriesHere at x)
         go true e =
             record {
               first = false;
@@ -211,7 +211,7 @@ module _ (s : List ℕ) (at n : ℕ) (l : Counting s at n) where
 
 -- a record, byte by byte
 pub record-over : (l : List ℕ) (to : ℕ) (e : Entry)
-    → sets (sets (set (set (set (set l to 0x47) (to + 1) 0x58) (to + 2) (e .track)) (to + 3) (e .kind)) (to + 4) (leBytes 4 (e .field))) (to + 8) (leBytes 8 (e .at))
+    → sets (sets (set (set (set (set l to 0x47) (to + 1) 0x58) (to + 2) (e .track)) (to + 3) (e .«media_type»)) (to + 4) (leBytes 4 (e .field))) (to + 8) (leBytes 8 (e .at))
     ≡ sets l to (recordBytes e)
 unfolding recordBytes
 record-over l to e =
@@ -222,13 +222,13 @@ record-over l to e =
     let h : to + 8 ≡ suc (suc (suc (suc to))) + length (leBytes 4 (e .field)) = omega (arith, length-leBytes 4 (e .field)) in
     rw (h, g, d, b, a) (sets-append (leBytes 4 (e .field)) _ (suc (suc (suc (suc to)))) (leBytes 8 (e .at)))
 
-pub bytes-one : (e : Entry) → bytesOf (e ∷ []) ≡ recordBytes e
-unfolding bytesOf
+pub bytes-one : (e : Entry) → bookBytes (e ∷ []) ≡ recordBytes e
+unfolding bookBytes
 bytes-one e = append-nil (recordBytes e)
 
--- bytes of entries one after another
-pub bytes-append : (a b : List Entry) → bytesOf (a ++ b) ≡ bytesOf a ++ bytesOf b
-unfolding bytesOf
+-- bytes of entries one progressAfter another
+pub bytes-append : (a b : List Entry) → bookBytes (a ++ b) ≡ bookBytes a ++ bookBytes b
+unfolding bookBytes
 bytes-append [] b = refl
 bytes-append (x ∷ a) b = rw (bytes-append a b, append-assoc)
 
@@ -237,14 +237,14 @@ pub record Writing (s : List ℕ) (at to : ℕ) (old now-out : List ℕ) : Type 
   pub done : List Entry
   pub place : to ≡ 16 * length done
   pub left : Left s at done
-  pub same : now-out ≡ sets old 0 (bytesOf done)
+  pub same : now-out ≡ sets old 0 (bookBytes done)
 
 pub write-begin : (s l : List ℕ) → Accepted s → Writing s 0 0 l l
-unfolding bytesOf
+unfolding bookBytes
 write-begin s l a = record { done = []; place = refl; left = begin s a; same = refl }
 
 module _ (s : List ℕ) (at to : ℕ) (old now-out : List ℕ) (l : Writing s at to old now-out) where
-  pub write-out : length s ≤ at → now-out ≡ sets old 0 (bytesOf (entriesIn s))
+  pub write-out : length s ≤ at → now-out ≡ sets old 0 (bookBytes (entriesIn s))
   write-out h = rw (all-out s at (l .done) (l .left) h) (l .same)
 
   module _ (h : at < length s) where
@@ -254,14 +254,14 @@ module _ (s : List ℕ) (at to : ℕ) (old now-out : List ℕ) (l : Writing s at
     pub write-room : to + 16 * length entries ≤ 16 * length (entriesIn s)
     write-room = omega (arith, among s at (l .done) (l .left) h, length-append (l .done) entries, l .place)
 
-    pub write-next : (new : List ℕ) → new ≡ sets now-out to (bytesOf entries) → (k : ℕ) → k ≡ to + 16 * length entries → Writing s (at + seenAt s at .len) k old new
+    pub write-next : (new : List ℕ) → new ≡ sets now-out to (bookBytes entries) → (k : ℕ) → k ≡ to + 16 * length entries → Writing s (at + seenAt s at .len) k old new
     write-next new q k t =
-        let a : to ≡ 0 + length (bytesOf (l .done)) = omega (arith, length-bytes (l .done), l .place) in
+        let a : to ≡ 0 + length (bookBytes (l .done)) = omega (arith, length-bytes (l .done), l .place) in
         record {
           done = l .done ++ entries;
           place = omega (arith, length-append (l .done) entries, l .place);
           left = next s at (l .done) (l .left) h;
-          same = q ∙ rw (l .same, a, sets-append (bytesOf (l .done)) old 0 (bytesOf entries), bytes-append (l .done) entries);
+          same = q ∙ rw (l .same, a, sets-append (bookBytes (l .done)) old 0 (bookBytes entries), bytes-append (l .done) entries);
         }
 
 -- the answer and the buffer, by the check and the room
@@ -275,8 +275,8 @@ module _ (l s : List ℕ) where
   build-small k e h = rw (e, lt-ltb (length l) (16 * length (entriesIn s)) h) (refl, refl)
 
   pub build-done : (k : ℕ) → checkOf s ≡ check.Packets k → 16 * length (entriesIn s) ≤ length l → (n : ℕ) → n ≡ length (entriesIn s)
-      → (new : List ℕ) → new ≡ sets l 0 (bytesOf (entriesIn s)) → (build.Records n ≡ buildAnswer l s) × (new ≡ builtIn l s)
+      → (new : List ℕ) → new ≡ sets l 0 (bookBytes (entriesIn s)) → (build.Records n ≡ buildAnswer l s) × (new ≡ builtIn l s)
   unfolding builtIn buildAnswer
   build-done k e h n q new o =
-      let w = sets-eq (bytesOf (entriesIn s)) l 0 (omega (arith, length-bytes (entriesIn s))) in
+      let w = sets-eq (bookBytes (entriesIn s)) l 0 (omega (arith, length-bytes (entriesIn s))) in
       rw (e, le-ltb (length l) (16 * length (entriesIn s)) h) (ap build.Records q, o ∙ rw zero-add at w)

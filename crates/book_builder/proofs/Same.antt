@@ -20,7 +20,7 @@ use Rattle.stream.specs.declared.CheckAnswer.{CheckAnswer}
 use Rattle.stream.specs.declared.CheckAnswer.the-variants as check
 use Rattle.stream.specs.declared.SeekAnswer.{SeekAnswer}
 use Rattle.stream.specs.declared.SeekAnswer.the-variants as seek
-use Rattle.book.specs.Book.{bytesOf, judge, good, bookOf, Found, nothing, there, firstIn, lookupOf, orNotThere as orNoRecord}
+use Rattle.book.specs.Book.{bookBytes, judgeBook, good, bookOf, Offset, nothing, there, firstIn, lookupOf, orNotThere as orNoRecord}
 use Rattle.book.specs.declared.LookupAnswer.{LookupAnswer}
 use Rattle.book.specs.declared.LookupAnswer.the-variants as lookup
 use Rattle.book.proofs.Coding.{length-bytes, book-back, lookup-back}
@@ -33,7 +33,7 @@ abbrev pub asSeek : LookupAnswer → SeekAnswer
 asSeek (lookup.At o) = seek.At o
 asSeek (lookup.Refused r) = seek.Refused r
 
-abbrev spotOf : Found → Spot
+abbrev spotOf : Offset → Spot
 spotOf (there o) = spot.At o
 spotOf nothing = spot.Nothing
 
@@ -42,7 +42,7 @@ first-with : (track field : ℕ) (x : Placed) (xs : List Placed) → spotOf (fir
     → spotOf (firstIn track field (entriesHere (x .at) (x .piece) ++ entriesOf xs)) ≡ pick (carriesPiece track field (x .piece)) (spot.At (x .at)) (firstOf track field xs)
 unfolding entriesHere recorded carriesPiece firstIn
 first-with track field x xs i =
-    go (eqb (x .piece .role) 0xBF) (knownType (x .piece .kind)) (eqb (x .piece .track) track) (eqb (x .piece .field) field) refl refl
+    go (eqb (x .piece .«packet_type») 0xBF) (knownType (x .piece .«media_type»)) (eqb (x .piece .track) track) (eqb (x .piece .field) field) refl refl
   where
     go : (a k b d : Bool) → eqb (x .piece .track) track ≡ b → eqb (x .piece .field) field ≡ d
         → spotOf (firstIn track field (pick (pick a k false) (entryOf (x .at) (x .piece) ∷ []) [] ++ entriesOf xs))
@@ -60,7 +60,7 @@ unfolding entriesOf firstIn firstOf
 first-same track field [] = refl
 first-same track field (x ∷ xs) = first-with track field x xs (first-same track field xs)
 
-answer-same : (a : Found) → asSeek (orNoRecord a) ≡ orNotThere (spotOf a)
+answer-same : (a : Offset) → asSeek (orNoRecord a) ≡ orNotThere (spotOf a)
 answer-same (there o) = refl
 answer-same nothing = refl
 
@@ -70,7 +70,7 @@ first-in s track field = first-same track field (packets s .list)
 
 -- a book is good: no record of it is bad, and nothing else stands in it
 abbrev pub GoodBook : List ℕ → Type 0
-GoodBook book = judge 0 0 (bookOf book .entries) (bookOf book .whole) ≡ good
+GoodBook book = judgeBook 0 0 (bookOf book .entries) (bookOf book .whole) ≡ good
 
 -- what an answer of n records tells: the stream passes the check, and n is the number of its records
 record Told (s : List ℕ) (n : ℕ) : Type 0 where
@@ -91,11 +91,11 @@ told l s n = go (checkOf s) (ltb (length l) (16 * length (entriesIn s))) refl re
         by false e = record { packets = k; passed = p; many = cc }
 
 -- what stands in the buffer after an answer of n records: the records of the stream, at its start
-book-of : (l s : List ℕ) (n : ℕ) → buildAnswer l s ≡ build.Records n → take (16 * n) (builtIn l s) ≡ bytesOf (entriesIn s)
+book-of : (l s : List ℕ) (n : ℕ) → buildAnswer l s ≡ build.Records n → take (16 * n) (builtIn l s) ≡ bookBytes (entriesIn s)
 unfolding builtIn
 book-of l s n e =
-    let a : 16 * n ≡ length (bytesOf (entriesIn s)) = omega (arith, length-bytes (entriesIn s), told l s n e .many) in
-    rw (e, a) (take-append-seam (bytesOf (entriesIn s)) (drop (length (bytesOf (entriesIn s))) l))
+    let a : 16 * n ≡ length (bookBytes (entriesIn s)) = omega (arith, length-bytes (entriesIn s), told l s n e .many) in
+    rw (e, a) (take-append-seam (bookBytes (entriesIn s)) (drop (length (bookBytes (entriesIn s))) l))
 
 -- a stream that passes the check is answered by the number of its records, where the buffer has room for them
 pub answered : (l s : List ℕ) (n : ℕ) → checkOf s ≡ check.Packets n → 16 * length (entriesIn s) ≤ length l → buildAnswer l s ≡ build.Records (length (entriesIn s))
@@ -106,8 +106,8 @@ answered l s n e h = rw (e, le-ltb (length l) (16 * length (entriesIn s)) h)
 pub beyond-stays : (l s : List ℕ) (n : ℕ) → buildAnswer l s ≡ build.Records n → drop (16 * n) (builtIn l s) ≡ drop (16 * n) l
 unfolding builtIn
 beyond-stays l s n e =
-    let a : 16 * n ≡ length (bytesOf (entriesIn s)) = omega (arith, length-bytes (entriesIn s), told l s n e .many) in
-    rw (e, a) (drop-append-seam (bytesOf (entriesIn s)) (drop (length (bytesOf (entriesIn s))) l))
+    let a : 16 * n ≡ length (bookBytes (entriesIn s)) = omega (arith, length-bytes (entriesIn s), told l s n e .many) in
+    rw (e, a) (drop-append-seam (bookBytes (entriesIn s)) (drop (length (bookBytes (entriesIn s))) l))
 
 -- a refused build leaves every byte as it was
 pub refused-stays : (l s : List ℕ) (r : Refusal) → buildAnswer l s ≡ build.Refused r → builtIn l s ≡ l
@@ -116,11 +116,11 @@ refused-stays l s r e = rw e
 
 -- s is what a slice lends: bytes, fewer than 2^64; l is the lent buffer
 module _ (s : List ℕ) (b : Bytes s) (small : length s < 2 ^ 64) where
-  pub records-good : GoodBook (bytesOf (entriesIn s))
+  pub records-good : GoodBook (bookBytes (entriesIn s))
   records-good = rw (book-back (entriesIn s) (sound s b small .fit)) (sound s b small .judged)
 
   -- for every stream that passes the check, lookup in its records gives what seek gives: the offset, or 16
-  pub records-same : (n : ℕ) → checkOf s ≡ check.Packets n → (track field : ℕ) → asSeek (lookupOf (bytesOf (entriesIn s)) track field) ≡ seekOf s track field
+  pub records-same : (n : ℕ) → checkOf s ≡ check.Packets n → (track field : ℕ) → asSeek (lookupOf (bookBytes (entriesIn s)) track field) ≡ seekOf s track field
   unfolding seekOf
   records-same n e track field =
       rw (e, lookup-back (entriesIn s) track field (sound s b small .fit), sound s b small .judged)

@@ -17,8 +17,8 @@ use Rattle.packet.proofs.Laws.{whole}
 use Rattle.packet.specs.declared.Packet.{Packet}
 use Rattle.packet.specs.declared.PacketAnswer.{PacketAnswer}
 use Rattle.packet.specs.declared.PacketAnswer.the-variants as packet
-use Rattle.items.specs.declared.Verdict.{Verdict}
-use Rattle.items.specs.declared.Verdict.the-variants as verdict
+use Rattle.map_items.specs.declared.Verdict.{Verdict}
+use Rattle.map_items.specs.declared.Verdict.the-variants as verdict
 use Rattle.map.specs.Map.{mapVerdict}
 use Rattle.locator.specs.Locator.{tableOf}
 use Rattle.locator.specs.declared.LocatorAnswer.{LocatorAnswer}
@@ -45,66 +45,66 @@ media-seen p m = go (ltb (length p - 16) 16) (ltb 63 (getD p 17 0)) refl
 
 -- a media packet, and any other, of the bytes of a packet
 abbrev mediaPiece : List ℕ → Piece
-mediaPiece p = record { role = 0xBF; len = length p; kind = getD p 16 0; track = getD p 17 0; field = be p 18 4 }
+mediaPiece p = record { «packet_type» = 0xBF; len = length p; «media_type» = getD p 16 0; track = getD p 17 0; field = be p 18 4 }
 
 abbrev otherPiece : ℕ → List ℕ → Piece
-otherPiece role p = record { role = role; len = length p; kind = 0; track = 0; field = 0 }
+otherPiece packetType p = record { «packet_type» = packetType; len = length p; «media_type» = 0; track = 0; field = 0 }
 
 -- what a packet's content tells: of a media packet its preamble is there
-record Content (p : List ℕ) (role : ℕ) (x : Piece) : Type 0 where
-  of-media : role ≡ 0xBF → (x ≡ mediaPiece p) × (32 ≤ length p)
-  of-other : (role ≡ 0xBF → ⊥) → x ≡ otherPiece role p
+record Content (p : List ℕ) (packetType : ℕ) (x : Piece) : Type 0 where
+  of-media : packetType ≡ 0xBF → (x ≡ mediaPiece p) × (32 ≤ length p)
+  of-other : (packetType ≡ 0xBF → ⊥) → x ≡ otherPiece packetType p
 
-content-seen : (p : List ℕ) (at role : ℕ) (x : Piece) → contentOf p at role ≡ Whole x → Content p role x
+content-seen : (p : List ℕ) (at packetType : ℕ) (x : Piece) → contentOf p at packetType ≡ Whole x → Content p packetType x
 unfolding contentOf
-content-seen p at role x = go (eqb role 0xBF) (eqb role 0xBC) (eqb role 0xFC) refl refl refl
+content-seen p at packetType x = go (eqb packetType 0xBF) (eqb packetType 0xBC) (eqb packetType 0xFC) refl refl refl
   where
-    plain : (r : ℕ) → role ≡ r → eqb role 0xBF ≡ false → plainPiece r (length p) ≡ Whole x → Content p role x
+    plain : (r : ℕ) → packetType ≡ r → eqb packetType 0xBF ≡ false → plainPiece r (length p) ≡ Whole x → Content p packetType x
     plain r q n e =
         let a : otherPiece r p ≡ x = cc in
-        record { of-media = λ z. absurd (eqb-false role 0xBF n z); of-other = λ z. sym a ∙ rw q refl }
+        record { of-media = λ z. absurd (eqb-false packetType 0xBF n z); of-other = λ z. sym a ∙ rw q refl }
 
-    of-map : (v : Verdict) → role ≡ 0xBC → eqb role 0xBF ≡ false → ofMap at (length p) v ≡ Whole x → Content p role x
+    of-map : (v : Verdict) → packetType ≡ 0xBC → eqb packetType 0xBF ≡ false → ofMap at (length p) v ≡ Whole x → Content p packetType x
     of-map verdict.Accepted q n e = plain 0xBC q n e
     of-map (verdict.Refused r) q n e = absurd (let z : _≡_ {A = ℕ} 0 1 = cc in omega arith)
 
-    of-locator : (v : LocatorAnswer) → role ≡ 0xFC → eqb role 0xBF ≡ false → ofLocator at (length p) v ≡ Whole x → Content p role x
+    of-locator : (v : LocatorAnswer) → packetType ≡ 0xFC → eqb packetType 0xBF ≡ false → ofLocator at (length p) v ≡ Whole x → Content p packetType x
     of-locator (locator.Table t) q n e = plain 0xFC q n e
     of-locator (locator.Refused r) q n e = absurd (let z : _≡_ {A = ℕ} 0 1 = cc in omega arith)
 
-    of-media : (v : MediaAnswer) → preambleOf p 0 ≡ v → role ≡ 0xBF → ofMedia at (length p) v ≡ Whole x → Content p role x
+    of-media : (v : MediaAnswer) → preambleOf p 0 ≡ v → packetType ≡ 0xBF → ofMedia at (length p) v ≡ Whole x → Content p packetType x
     of-media (media.Preamble m) q k e =
         let w = media-seen p m q in
-        let a : record { role = 0xBF; len = length p; kind = m .kind; track = m .track; field = m .field } ≡ x = cc in
+        let a : record { «packet_type» = 0xBF; len = length p; «media_type» = m .«media_type»; track = m .track; field = m .field } ≡ x = cc in
         record { of-media = λ z. (sym a ∙ rw (← w .0) refl, w .1); of-other = λ z. absurd (z k) }
     of-media (media.Refused r) q k e = absurd (let z : _≡_ {A = ℕ} 0 1 = cc in omega arith)
 
-    go : (a b d : Bool) → eqb role 0xBF ≡ a → eqb role 0xBC ≡ b → eqb role 0xFC ≡ d
-        → pick a (ofMedia at (length p) (preambleOf p 0)) (pick b (ofMap at (length p) (mapVerdict p)) (pick d (ofLocator at (length p) (tableOf p)) (plainPiece role (length p)))) ≡ Whole x
-        → Content p role x
-    go true b d h i j e = of-media (preambleOf p 0) refl (eqb-true role 0xBF h) e
-    go false true d h i j e = of-map (mapVerdict p) (eqb-true role 0xBC i) h e
-    go false false true h i j e = of-locator (tableOf p) (eqb-true role 0xFC j) h e
-    go false false false h i j e = plain role refl h e
+    go : (a b d : Bool) → eqb packetType 0xBF ≡ a → eqb packetType 0xBC ≡ b → eqb packetType 0xFC ≡ d
+        → pick a (ofMedia at (length p) (preambleOf p 0)) (pick b (ofMap at (length p) (mapVerdict p)) (pick d (ofLocator at (length p) (tableOf p)) (plainPiece packetType (length p)))) ≡ Whole x
+        → Content p packetType x
+    go true b d h i j e = of-media (preambleOf p 0) refl (eqb-true packetType 0xBF h) e
+    go false true d h i j e = of-map (mapVerdict p) (eqb-true packetType 0xBC i) h e
+    go false false true h i j e = of-locator (tableOf p) (eqb-true packetType 0xFC j) h e
+    go false false false h i j e = plain packetType refl h e
 
 -- the packet, and that it can be seen
 pub record Seen (s : List ℕ) (at : ℕ) (x : Piece) : Type 0 where
   pub is : x ≡ seenAt s at
   pub can : Seeable s at
 
-module _ (s : List ℕ) (at : ℕ) (w : Packet) (q : headerAt s at ≡ packet.Whole w) (x : Piece) (t : Content (take (w .len) (drop at s)) (w .kind) x) where
+module _ (s : List ℕ) (at : ℕ) (w : Packet) (q : headerAt s at ≡ packet.Whole w) (x : Piece) (t : Content (take (w .len) (drop at s)) (w .«packet_type») x) where
   abbrev p : List ℕ
   p = take (w .len) (drop at s)
 
   by-bytes : Seen s at x
   unfolding seenAt
-  by-bytes = go (eqb (w .kind) 0xBF) refl
+  by-bytes = go (eqb (w .«packet_type») 0xBF) refl
     where
-      go : (b : Bool) → eqb (w .kind) 0xBF ≡ b → Seen s at x
+      go : (b : Bool) → eqb (w .«packet_type») 0xBF ≡ b → Seen s at x
       go true r =
           let g = whole s at w q in
           let k = cut s at w q in
-          let m = t .of-media (eqb-true (w .kind) 0xBF r) in
+          let m = t .of-media (eqb-true (w .«packet_type») 0xBF r) in
           let a : length p ≡ be s (at + 6) 4 = k .long ∙ g .lens in
           let b : getD p 16 0 ≡ getD s (at + 16) 0 = getD-take (w .len) (drop at s) 16 0 (omega (arith, k .long, m .1)) ∙ getD-drop at s 16 0 in
           let d : getD p 17 0 ≡ getD s (at + 17) 0 = getD-take (w .len) (drop at s) 17 0 (omega (arith, k .long, m .1)) ∙ getD-drop at s 17 0 in
@@ -114,7 +114,7 @@ module _ (s : List ℕ) (at : ℕ) (w : Packet) (q : headerAt s at ≡ packet.Wh
       go false r =
           let g = whole s at w q in
           let k = cut s at w q in
-          let o = t .of-other (eqb-false (w .kind) 0xBF r) in
+          let o = t .of-other (eqb-false (w .«packet_type») 0xBF r) in
           let a : length p ≡ be s (at + 6) 4 = k .long ∙ g .lens in
           let h : eqb (getD s (at + 5) 0) 0xBF ≡ false = rw (← g .kinds) r in
           record { is = o ∙ rw (a, h, g .kinds); can = record { header = omega (arith, k .within, k .least); preamble = λ z. absurd (eqb-false (getD s (at + 5) 0) 0xBF h z) } }
@@ -125,8 +125,8 @@ seen s at first x = go (headerAt s at) refl
   where
     go : (h : PacketAnswer) → headerAt s at ≡ h → afterHeader s at first h ≡ Whole x → Seen s at x
     go (packet.Refused r) q e = absurd (let z : _≡_ {A = ℕ} 0 1 = cc in omega arith)
-    go (packet.Whole w) q e = by (opens first (w .kind)) e
+    go (packet.Whole w) q e = by (opens first (w .«packet_type»)) e
       where
-        by : (b : Bool) → pick b (contentOf (take (w .len) (drop at s)) at (w .kind)) (Refused (refusal 17 at)) ≡ Whole x → Seen s at x
-        by true e = by-bytes s at w q x (content-seen (take (w .len) (drop at s)) at (w .kind) x e)
+        by : (b : Bool) → pick b (contentOf (take (w .len) (drop at s)) at (w .«packet_type»)) (Refused (refusal 17 at)) ≡ Whole x → Seen s at x
+        by true e = by-bytes s at w q x (content-seen (take (w .len) (drop at s)) at (w .«packet_type») x e)
         by false e = absurd (let z : _≡_ {A = ℕ} 0 1 = cc in omega arith)

@@ -15,8 +15,8 @@ use Rattle.media_type.specs.MediaType.{knownType}
 use Rattle.packet.specs.Packet.{headerAt}
 use Rattle.packet.specs.declared.PacketAnswer.{PacketAnswer}
 use Rattle.packet.specs.declared.PacketAnswer.the-variants as packet
-use Rattle.items.specs.declared.Verdict.{Verdict}
-use Rattle.items.specs.declared.Verdict.the-variants as verdict
+use Rattle.map_items.specs.declared.Verdict.{Verdict}
+use Rattle.map_items.specs.declared.Verdict.the-variants as verdict
 use Rattle.map.specs.Map.{mapVerdict}
 use Rattle.locator.specs.Locator.{tableOf}
 use Rattle.locator.specs.declared.LocatorAnswer.{LocatorAnswer}
@@ -31,7 +31,7 @@ use Rattle.piece.specs.declared.PieceAnswer.{PieceAnswer}
 use Rattle.piece.specs.declared.PieceAnswer.the-variants as piece
 use Rattle.piece.proofs.Laws.{told}
 use Rattle.stream.specs.Stream.{none, closed, runsOut, typesAfter, onPiece, packetsFrom, packets}
-use Rattle.book.specs.Book.{risesAt, stands, judge, good}
+use Rattle.book.specs.Book.{risesAt, stands, judgeBook, good}
 use Rattle.book.specs.declared.Entry.{Entry}
 use Rattle.book.proofs.Coding.{AllFit}
 use Rattle.book_builder.specs.BookBuilder.{recorded, entryOf, entriesHere, entriesOf, entriesIn}
@@ -58,13 +58,13 @@ media-field p m b = go (ltb (length p - 16) 16) (ltb 63 (getD p 17 0))
         let a : fieldsOf p ≡ m = cc in
         rw (sym (ap (λ (y : Media). y .field) a)) (be-lt p b 18 4)
 
-content-field : (p : List ℕ) (at role : ℕ) (x : Piece) → Bytes p → contentOf p at role ≡ piece.Whole x → x .field < 256 ^ 4
+content-field : (p : List ℕ) (at packetType : ℕ) (x : Piece) → Bytes p → contentOf p at packetType ≡ piece.Whole x → x .field < 256 ^ 4
 unfolding contentOf
-content-field p at role x b = go (eqb role 0xBF) (eqb role 0xBC) (eqb role 0xFC)
+content-field p at packetType x b = go (eqb packetType 0xBF) (eqb packetType 0xBC) (eqb packetType 0xFC)
   where
-    plain : (role : ℕ) → plainPiece role (length p) ≡ piece.Whole x → x .field < 256 ^ 4
-    plain role e =
-        let a : record { role = role; len = length p; kind = 0; track = 0; field = 0 } ≡ x = cc in
+    plain : (packetType : ℕ) → plainPiece packetType (length p) ≡ piece.Whole x → x .field < 256 ^ 4
+    plain packetType e =
+        let a : record { «packet_type» = packetType; len = length p; «media_type» = 0; track = 0; field = 0 } ≡ x = cc in
         rw (sym (ap (λ (y : Piece). y .field) a)) (omega arith)
 
     of-map : (v : Verdict) → ofMap at (length p) v ≡ piece.Whole x → x .field < 256 ^ 4
@@ -77,17 +77,17 @@ content-field p at role x b = go (eqb role 0xBF) (eqb role 0xBC) (eqb role 0xFC)
 
     of-media : (v : MediaAnswer) → preambleOf p 0 ≡ v → ofMedia at (length p) v ≡ piece.Whole x → x .field < 256 ^ 4
     of-media (media.Preamble m) q e =
-        let a : record { role = 0xBF; len = length p; kind = m .kind; track = m .track; field = m .field } ≡ x = cc in
+        let a : record { «packet_type» = 0xBF; len = length p; «media_type» = m .«media_type»; track = m .track; field = m .field } ≡ x = cc in
         rw (sym (ap (λ (y : Piece). y .field) a)) (media-field p m b q)
     of-media (media.Refused r) q e = absurd (let z : _≡_ {A = ℕ} 0 1 = cc in omega arith)
 
     go : (t u v : Bool)
-        → pick t (ofMedia at (length p) (preambleOf p 0)) (pick u (ofMap at (length p) (mapVerdict p)) (pick v (ofLocator at (length p) (tableOf p)) (plainPiece role (length p)))) ≡ piece.Whole x
+        → pick t (ofMedia at (length p) (preambleOf p 0)) (pick u (ofMap at (length p) (mapVerdict p)) (pick v (ofLocator at (length p) (tableOf p)) (plainPiece packetType (length p)))) ≡ piece.Whole x
         → x .field < 256 ^ 4
     go true u v e = of-media (preambleOf p 0) refl e
     go false true v e = of-map (mapVerdict p) e
     go false false true e = of-locator (tableOf p) e
-    go false false false e = plain role e
+    go false false false e = plain packetType e
 
 field-fits : (s : List ℕ) (at : ℕ) (first : Bool) (x : Piece) → Bytes s → pieceAt s at first ≡ piece.Whole x → x .field < 256 ^ 4
 unfolding pieceAt
@@ -95,24 +95,24 @@ field-fits s at first x b = go (headerAt s at)
   where
     go : (h : PacketAnswer) → afterHeader s at first h ≡ piece.Whole x → x .field < 256 ^ 4
     go (packet.Refused r) e = absurd (let z : _≡_ {A = ℕ} 0 1 = cc in omega arith)
-    go (packet.Whole w) e = by (opens first (w .kind)) e
+    go (packet.Whole w) e = by (opens first (w .«packet_type»)) e
       where
-        by : (t : Bool) → pick t (contentOf (take (w .len) (drop at s)) at (w .kind)) (piece.Refused (refusal 17 at)) ≡ piece.Whole x → x .field < 256 ^ 4
-        by true e = content-field (take (w .len) (drop at s)) at (w .kind) x (bytes-take (w .len) (drop at s) (bytes-drop at s b)) e
+        by : (t : Bool) → pick t (contentOf (take (w .len) (drop at s)) at (w .«packet_type»)) (piece.Refused (refusal 17 at)) ≡ piece.Whole x → x .field < 256 ^ 4
+        by true e = content-field (take (w .len) (drop at s)) at (w .«packet_type») x (bytes-take (w .len) (drop at s) (bytes-drop at s b)) e
         by false e = absurd (let z : _≡_ {A = ℕ} 0 1 = cc in omega arith)
 
 -- a packet with a record is of known type
-known-of : (x : Piece) → recorded x ≡ true → knownType (x .kind) ≡ true
+known-of : (x : Piece) → recorded x ≡ true → knownType (x .«media_type») ≡ true
 unfolding recorded
-known-of x = go (eqb (x .role) 0xBF)
+known-of x = go (eqb (x .«packet_type») 0xBF)
   where
-    go : (t : Bool) → pick t (knownType (x .kind)) false ≡ true → knownType (x .kind) ≡ true
+    go : (t : Bool) → pick t (knownType (x .«media_type»)) false ≡ true → knownType (x .«media_type») ≡ true
     go true e = e
     go false e = absurd (let z : _≡_ {A = ℕ} 0 1 = cc in omega arith)
 
 -- entries that may stand behind n others, the latest of an offset, in a book with no fault
 pub record Sound (n last : ℕ) (es : List Entry) : Type 0 where
-  pub judged : judge n last es true ≡ good
+  pub judged : judgeBook n last es true ≡ good
   pub fit : AllFit es
 
 -- every offset from a place on may stand behind n others, the latest of an offset
@@ -120,14 +120,14 @@ abbrev Low : ℕ → ℕ → ℕ → Type 0
 Low n last at = (o : ℕ) → at ≤ o → pick (eqb n 0) true (ltb last o) ≡ true
 
 nothing : (n last : ℕ) → Sound n last []
-unfolding judge AllFit
+unfolding judgeBook AllFit
 nothing n last = record { judged = refl; fit = tt }
 
 module _ (s : List ℕ) (b : Bytes s) (small : length s < 2 ^ 64) where
   -- a packet, and packets behind it
   on-whole : (at : ℕ) (first : Bool) (x : Piece) → pieceAt s at first ≡ piece.Whole x → (n last : ℕ) → Low n last at
       → (es : List Entry) → ((m o : ℕ) → Low m o (at + x .len) → Sound m o es) → Sound n last (entriesHere at x ++ es)
-  unfolding entriesHere judge AllFit stands risesAt
+  unfolding entriesHere judgeBook AllFit stands risesAt
   on-whole at first x e n last low es rest = go (recorded x) refl
     where
       go : (t : Bool) → recorded x ≡ t → Sound n last (pick t (entryOf at x ∷ []) [] ++ es)
@@ -149,7 +149,7 @@ module _ (s : List ℕ) (b : Bytes s) (small : length s < 2 ^ 64) where
           → Sound n last (entriesOf (pick t (onPiece s at types (λ now-types next. packetsFrom s f false now-types next) a) (none runsOut) .list))
       step ih false a q = nothing n last
       step ih true (piece.Refused r) q = nothing n last
-      step ih true (piece.Whole x) q = on-whole at first x q n last low _ (by (eqb (x .role) 0xFB))
+      step ih true (piece.Whole x) q = on-whole at first x q n last low _ (by (eqb (x .«packet_type») 0xFB))
         where
           by : (t : Bool) (m o : ℕ) → Low m o (at + x .len)
               → Sound m o (entriesOf (pick t (none closed) (packetsFrom s f false (typesAfter s at x types) (at + x .len)) .list))

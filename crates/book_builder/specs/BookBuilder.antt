@@ -13,18 +13,18 @@ use Rattle.piece.specs.declared.Piece.{Piece}
 use Rattle.stream.specs.Stream.{Placed, packets, checkOf}
 use Rattle.stream.specs.declared.CheckAnswer.{CheckAnswer}
 use Rattle.stream.specs.declared.CheckAnswer.the-variants as check
-use Rattle.book.specs.Book.{bytesOf}
+use Rattle.book.specs.Book.{bookBytes}
 use Rattle.book.specs.declared.Entry.{Entry}
 use Rattle.book_builder.specs.declared.BuildAnswer.{BuildAnswer}
 use Rattle.book_builder.specs.declared.BuildAnswer.the-variants as build
 
 -- a packet has a record if it is media of known type
 unfoldable pub recorded : Piece → Bool
-recorded x = pick (eqb (x .role) 0xBF) (knownType (x .kind)) false
+recorded x = pick (eqb (x .«packet_type») 0xBF) (knownType (x .«media_type»)) false
 
 -- the record of a packet at an offset
 abbrev pub entryOf : ℕ → Piece → Entry
-entryOf at x = record { track = x .track; kind = x .kind; field = x .field; at = at }
+entryOf at x = record { track = x .track; «media_type» = x .«media_type»; field = x .field; at = at }
 
 unfoldable pub entriesHere : ℕ → Piece → List Entry
 entriesHere at x = pick (recorded x) (entryOf at x ∷ []) []
@@ -47,12 +47,12 @@ unfoldable pub buildAnswer : List ℕ → List ℕ → BuildAnswer
 buildAnswer l s = inRoom (length l) (length (entriesIn s)) (checkOf s)
 
 -- the records at the buffer's start, if there was no refusal; all else stays
-abbrev pub written : List ℕ → List ℕ → BuildAnswer → List ℕ
-written l bytes (build.Refused r) = l
-written l bytes (build.Records n) = bytes ++ drop (length bytes) l
+abbrev pub recordsWrittenIn : List ℕ → List ℕ → BuildAnswer → List ℕ
+recordsWrittenIn l bytes (build.Refused r) = l
+recordsWrittenIn l bytes (build.Records n) = bytes ++ drop (length bytes) l
 
 unfoldable pub builtIn : List ℕ → List ℕ → List ℕ
-builtIn l s = written l (bytesOf (entriesIn s)) (buildAnswer l s)
+builtIn l s = recordsWrittenIn l (bookBytes (entriesIn s)) (buildAnswer l s)
 
 -- for the code alone: how it walks over the packets of a stream that the check has passed
 pub record Accepted (s : List ℕ) : Type 0 where
@@ -68,5 +68,5 @@ pub record Seeable (s : List ℕ) (at : ℕ) : Type 0 where
 unfoldable pub seenAt : List ℕ → ℕ → Piece
 seenAt s at =
     pick (eqb (getD s (at + 5) 0) 0xBF)
-    (record { role = 0xBF; len = be s (at + 6) 4; kind = getD s (at + 16) 0; track = getD s (at + 17) 0; field = be s (at + 18) 4 })
-    (record { role = getD s (at + 5) 0; len = be s (at + 6) 4; kind = 0; track = 0; field = 0 })
+    (record { «packet_type» = 0xBF; len = be s (at + 6) 4; «media_type» = getD s (at + 16) 0; track = getD s (at + 17) 0; field = be s (at + 18) 4 })
+    (record { «packet_type» = getD s (at + 5) 0; len = be s (at + 6) 4; «media_type» = 0; track = 0; field = 0 })

@@ -7,7 +7,7 @@ ghost use mathlib.Core.Path.{_≡_};
 ghost use Prim.Native.Nat.{_+_, _*_, _≤_};
 ghost use lib.ListN.{length};
 ghost use lib.Seq.{sets};
-ghost use Rattle.book.specs.Book.{recordBytes, bytesOf};
+ghost use Rattle.book.specs.Book.{recordBytes, bookBytes};
 ghost use Rattle.book_builder.specs.BookBuilder.{recorded, entriesHere, entriesIn, Seeable, seenAt, Accepted, buildAnswer, builtIn};
 
 // A book of so many records was written.
@@ -20,11 +20,11 @@ pub enum BuildAnswer {
 fn is_recorded(x: Piece) -> bool
     ensures { λ r. ⌜ r ≡ recorded x ⌝ }
 {
-    let kind = x.kind;
-    if x.role != packet::MEDIA {
+    let media_type = x.media_type;
+    if x.packet_type != packet::MEDIA {
         return false;
     }
-    media_type::is_known(kind)
+    media_type::is_known(media_type)
 }
 
 // How many records a packet has.
@@ -42,22 +42,22 @@ fn seen_at(s: &[u8], at: usize) -> Piece
     requires { ⌜ Seeable (now s) at ⌝ }
     ensures { λ r. ⌜ r ≡ seenAt (now (s .entry)) at ⌝ }
 {
-    let role = s[at + 5];
+    let packet_type = s[at + 5];
     let len = number::be4(s, at + 6);
-    if role == packet::MEDIA {
+    if packet_type == packet::MEDIA {
         let field = number::be4(s, at + 18);
         return Piece {
-            role: packet::MEDIA,
+            packet_type: packet::MEDIA,
             len,
-            kind: s[at + 16],
+            media_type: s[at + 16],
             track: s[at + 17],
             field: field as u32,
         };
     }
     Piece {
-        role,
+        packet_type,
         len,
-        kind: 0,
+        media_type: 0,
         track: 0,
         field: 0,
     }
@@ -87,7 +87,7 @@ fn put_record(out: &mut [u8], to: usize, e: Entry)
     out[to] = 0x47;
     out[to + 1] = 0x58;
     out[to + 2] = e.track;
-    out[to + 3] = e.kind;
+    out[to + 3] = e.media_type;
     number::put_le(out, to + 4, e.field, 4);
     number::put_le(out, to + 8, e.at, 8);
 }
@@ -95,7 +95,7 @@ fn put_record(out: &mut [u8], to: usize, e: Entry)
 // Writes the record of a packet at an offset, if it has one; the place after it.
 fn put_records(out: &mut [u8], to: usize, x: Piece, at: usize) -> usize
     requires { ⌜ to + 16 * length (entriesHere at x) ≤ length (now out) ⌝ }
-    ensures { λ r. ⌜ (r ≡ to + 16 * length (entriesHere at x)) × (now (out .exit) ≡ sets (now (out .entry)) to (bytesOf (entriesHere at x))) ⌝ }
+    ensures { λ r. ⌜ (r ≡ to + 16 * length (entriesHere at x)) × (now (out .exit) ≡ sets (now (out .entry)) to (bookBytes (entriesHere at x))) ⌝ }
 {
     if is_recorded(x) {
         put_record(
@@ -103,7 +103,7 @@ fn put_records(out: &mut [u8], to: usize, x: Piece, at: usize) -> usize
             to,
             Entry {
                 track: x.track,
-                kind: x.kind,
+                media_type: x.media_type,
                 field: x.field as usize,
                 at,
             },
@@ -116,7 +116,7 @@ fn put_records(out: &mut [u8], to: usize, x: Piece, at: usize) -> usize
 // Writes the records of a stream that the check accepts.
 fn write(out: &mut [u8], s: &[u8])
     requires { ⌜ Accepted (now s) × (16 * length (entriesIn (now s)) ≤ length (now out)) ⌝ }
-    ensures { λ _. ⌜ now (out .exit) ≡ sets (now (out .entry)) 0 (bytesOf (entriesIn (now (s .entry)))) ⌝ }
+    ensures { λ _. ⌜ now (out .exit) ≡ sets (now (out .entry)) 0 (bookBytes (entriesIn (now (s .entry)))) ⌝ }
 {
     let mut at: usize = 0;
     let mut to: usize = 0;

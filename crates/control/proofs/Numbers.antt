@@ -12,9 +12,9 @@ use Rattle.packet.specs.Packet.{headerAt, packetAt}
 use Rattle.packet.specs.declared.Packet.{Packet}
 use Rattle.packet.specs.declared.PacketAnswer.{PacketAnswer}
 use Rattle.packet.specs.declared.PacketAnswer.the-variants as packet
-use Rattle.items.proofs.Numbers.{either, Own}
-use Rattle.items.specs.declared.Verdict.{Verdict}
-use Rattle.items.specs.declared.Verdict.the-variants as verdict
+use Rattle.map_items.proofs.Numbers.{either, Own}
+use Rattle.map_items.specs.declared.Verdict.{Verdict}
+use Rattle.map_items.specs.declared.Verdict.the-variants as verdict
 use Rattle.map.specs.Map.{mapVerdict}
 use Rattle.map.proofs.Numbers.{OfHeader, header-numbers, packet-numbers, verdict-numbers}
 use Rattle.locator.specs.Locator.{tableOf, entryFor, byTable, positionOf, positionIn, positionAt}
@@ -33,7 +33,7 @@ use Rattle.order.specs.Order.{started, misplaced, overdue, unmapped, ending, st
 use Rattle.order.specs.declared.Progress.{Progress}
 use Rattle.order.specs.declared.Step.{Step}
 use Rattle.order.specs.declared.Step.the-variants as step
-use Rattle.stream.specs.Stream.{Placed, End, closed, runsOut, stops, Packets, typesAfter, onPiece, packetsFrom, packets, ranOut, onStep, stepAt, judge, checkOf, firstOf, orNotThere, ifChecked, seekOf}
+use Rattle.stream.specs.Stream.{Placed, End, closed, runsOut, stops, Packets, typesAfter, onPiece, packetsFrom, packets, ranOut, onStep, stepAt, judgePackets, checkOf, firstOf, orNotThere, ifChecked, seekOf}
 use Rattle.stream.specs.declared.Spot.{Spot}
 use Rattle.stream.specs.declared.Spot.the-variants as spot
 use Rattle.stream.specs.declared.CheckAnswer.{CheckAnswer}
@@ -87,12 +87,12 @@ abbrev OfPiece : PieceAnswer → Type 0
 OfPiece (piece.Whole x) = Unit {0}
 OfPiece (piece.Refused r) = Real r
 
-content-real : (p : List ℕ) (at role : ℕ) → OfPiece (contentOf p at role)
+content-real : (p : List ℕ) (at packetType : ℕ) → OfPiece (contentOf p at packetType)
 unfolding contentOf
-content-real p at role =
-    either OfPiece (eqb role 0xBF) (of-media (preambleOf p 0) (media-real p 0))
-    (either OfPiece (eqb role 0xBC) (of-map (mapVerdict p) (verdict-numbers p))
-    (either OfPiece (eqb role 0xFC) (of-locator (tableOf p) (table-real p)) tt))
+content-real p at packetType =
+    either OfPiece (eqb packetType 0xBF) (of-media (preambleOf p 0) (media-real p 0))
+    (either OfPiece (eqb packetType 0xBC) (of-map (mapVerdict p) (verdict-numbers p))
+    (either OfPiece (eqb packetType 0xFC) (of-locator (tableOf p) (table-real p)) tt))
   where
     of-media : (a : MediaAnswer) → OfMedia a → OfPiece (ofMedia at (length p) a)
     of-media (media.Preamble m) h = tt
@@ -112,7 +112,7 @@ piece-real s at first = go (headerAt s at) (header-numbers s at)
   where
     go : (a : PacketAnswer) → OfHeader 5 a → OfPiece (afterHeader s at first a)
     go (packet.Refused r) h = h .0
-    go (packet.Whole w) h = either OfPiece (opens first (w .kind)) (content-real (take (w .len) (drop at s)) at (w .kind)) (omega arith)
+    go (packet.Whole w) h = either OfPiece (opens first (w .«packet_type»)) (content-real (take (w .len) (drop at s)) at (w .«packet_type»)) (omega arith)
 
 -- ---- the order of packets
 abbrev OfStep : Step → Type 0
@@ -123,10 +123,10 @@ OfStep (step.Refused r) = Real r
 step-real : (p : Progress) (x : Piece) (at listed : ℕ) (more : Bool) → OfStep (stepOf p x at listed more)
 unfolding stepOf ending
 step-real p x at listed more =
-    either OfStep (misplaced (p .due) (p .flt) (x .role)) (omega arith)
-    (either OfStep (overdue (p .since) (x .role)) (omega arith)
-    (either OfStep (unmapped (x .role) (x .kind) listed) (omega arith)
-    (either OfStep (eqb (x .role) 0xFB) (either OfStep more (omega arith) (either OfStep (p .umf) tt (omega arith))) tt)))
+    either OfStep (misplaced (p .«eos_due») (p .flt) (x .«packet_type»)) (omega arith)
+    (either OfStep (overdue (p .«since_map») (x .«packet_type»)) (omega arith)
+    (either OfStep (unmapped (x .«packet_type») (x .«media_type») listed) (omega arith)
+    (either OfStep (eqb (x .«packet_type») 0xFB) (either OfStep more (omega arith) (either OfStep (p .umf) tt (omega arith))) tt)))
 
 -- ---- the stream
 abbrev OfEnd : End → Type 0
@@ -145,7 +145,7 @@ packets-real s (suc f) first types at =
   where
     go : (next : List ℕ → ℕ → Packets) → ((ts : List ℕ) (o : ℕ) → Ends (next ts o)) → (a : PieceAnswer) → OfPiece a → Ends (onPiece s at types next a)
     go next k (piece.Refused r) h = h
-    go next k (piece.Whole x) h = either Ends (eqb (x .role) 0xFB) tt (k (typesAfter s at x types) (at + x .len))
+    go next k (piece.Whole x) h = either Ends (eqb (x .«packet_type») 0xFB) tt (k (typesAfter s at x types) (at + x .len))
 
 abbrev OfCheck : CheckAnswer → Type 0
 OfCheck (check.Packets n) = Unit {0}
@@ -155,12 +155,12 @@ out-real : (count n : ℕ) → Real (ranOut count n)
 unfolding ranOut
 out-real count n = either Real (eqb count 0) (omega arith) (omega arith)
 
-judge-real : (n : ℕ) (xs : List Placed) (e : End) → OfEnd e → (p : Progress) → OfCheck (judge n p xs e)
-unfolding judge
+judge-real : (n : ℕ) (xs : List Placed) (e : End) → OfEnd e → (p : Progress) → OfCheck (judgePackets n p xs e)
+unfolding judgePackets
 judge-real n [] closed h p = out-real (p .count) n
 judge-real n [] runsOut h p = out-real (p .count) n
 judge-real n [] (stops r) h p = h
-judge-real n (x ∷ xs) e h p = go (λ q. judge n q xs e) (judge-real n xs e h) (stepAt n p x) (step-real p (x .piece) (x .at) (getD (x .types) (x .piece .track) 0) (ltb (x .at + x .piece .len) n))
+judge-real n (x ∷ xs) e h p = go (λ q. judgePackets n q xs e) (judge-real n xs e h) (stepAt n p x) (step-real p (x .piece) (x .at) (getD (x .types) (x .piece .track) 0) (ltb (x .at + x .piece .len) n))
   where
     go : (next : Progress → CheckAnswer) → ((q : Progress) → OfCheck (next q)) → (a : Step) → OfStep a → OfCheck (onStep next a)
     go next k (step.Next q) i = k q

@@ -11,8 +11,8 @@ use Rattle.for_c.specs.ForC.{answeredForC, refusedForC}
 
 -- a whole packet's type and length
 unfoldable pub headerForC : PacketAnswer → GxfPacket
-headerForC (packet.Whole p) = record { number = 0; place = 0; kind = p .kind; len = p .len }
-headerForC (packet.Refused r) = record { number = r .number; place = r .place; kind = 0; len = 0 }
+headerForC (packet.Whole p) = record { number = 0; place = 0; «packet_type» = p .«packet_type»; len = p .len }
+headerForC (packet.Refused r) = record { number = r .number; place = r .place; «packet_type» = 0; len = 0 }
 
 -- an offset in the stream, of a byte that need not begin a packet (clause 7.2.2)
 unfoldable pub positionForC : PositionAnswer → GxfValue

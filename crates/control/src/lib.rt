@@ -15,7 +15,7 @@ ghost use Rattle.control.specs.Control.{headerForC, positionForC, seekFo
 pub struct GxfPacket {
     pub number: u64,
     pub place: u64,
-    pub kind: u64,
+    pub packet_type: u64,
     pub len: u64,
 }
 
@@ -26,12 +26,12 @@ pub extern "C" fn gxf_header(s: &[u8], at: usize) -> GxfPacket
 {
     match packet::header(s, at) {
         PacketAnswer::Whole(p) => {
-            let kind = p.kind as u64;
+            let packet_type = p.packet_type as u64;
             let len = p.len as u64;
             GxfPacket {
                 number: 0,
                 place: 0,
-                kind,
+                packet_type,
                 len,
             }
         }
@@ -41,7 +41,7 @@ pub extern "C" fn gxf_header(s: &[u8], at: usize) -> GxfPacket
             GxfPacket {
                 number,
                 place,
-                kind: 0,
+                packet_type: 0,
                 len: 0,
             }
         }

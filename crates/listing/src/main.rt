@@ -3,24 +3,24 @@ use console::say;
 use packet::PacketAnswer;
 use stream::CheckAnswer;
 
-fn print_type(kind: u8) {
-    if kind == packet::MAP {
+fn print_type(packet_type: u8) {
+    if packet_type == packet::MAP {
         say(b"map");
         return;
     }
-    if kind == packet::MEDIA {
+    if packet_type == packet::MEDIA {
         say(b"media");
         return;
     }
-    if kind == packet::EOS {
+    if packet_type == packet::EOS {
         say(b"eos");
         return;
     }
-    if kind == packet::FLT {
+    if packet_type == packet::FLT {
         say(b"flt");
         return;
     }
-    if kind == packet::UMF {
+    if packet_type == packet::UMF {
         say(b"umf");
         return;
     }
@@ -32,10 +32,10 @@ fn print_refusal(number: u8, place: usize) {
     say(b"\n");
 }
 
-fn print_packet(at: usize, kind: u8, len: usize) {
+fn print_packet(at: usize, packet_type: u8, len: usize) {
     console::number(at as u64);
     say(b" ");
-    print_type(kind);
+    print_type(packet_type);
     console::figure(len as u64);
     say(b"\n");
 }
@@ -54,8 +54,8 @@ fn list(s: &[u8], n: usize) {
         match packet::header(s, at) {
             PacketAnswer::Whole(p) => {
                 let len = p.len;
-                let kind = p.kind;
-                print_packet(at, kind, len);
+                let packet_type = p.packet_type;
+                print_packet(at, packet_type, len);
                 at += len;
             }
             PacketAnswer::Refused(_) => {

@@ -18,7 +18,7 @@ use Rattle.packet.proofs.Laws.{accepts}
 use Rattle.locator.specs.Locator.{tableOf, positionOf}
 use Rattle.locator.specs.declared.LocatorAnswer.the-variants.{Table}
 use Rattle.locator.specs.declared.PositionAnswer.the-variants.{At, Refused as NoPosition}
-use Rattle.locator_writer.specs.Write.{entriesOf, lengthOf, packetOf, allFit, mayWrite, writeOf}
+use Rattle.locator_writer.specs.Write.{entryBytes, lengthOf, locatorPacket, allFit, mayWrite, locatorAnswer}
 use Rattle.packet_writer.specs.Write.{headerOf, refused}
 use Rattle.packet_writer.specs.declared.WriteAnswer.the-variants.{Length}
 use Rattle.locator_writer.proofs.Laws.{length-packet}
@@ -55,66 +55,66 @@ small-all [] f = refl
 small-all (n ∷ ns) f = simp (le-ltb 0xFFFFFFFF n (f 0), small-all ns (λ k. f (suc k)))
 
 -- entry k of the entries reads back, whatever stands before and after them
-entry-back : (p ns t : List ℕ) (k : ℕ) → allFit ns ≡ true → k < length ns → le (p ++ (entriesOf ns ++ t)) (length p + 4 * k) 4 ≡ getD ns k 0
-unfolding allFit entriesOf
+entry-back : (p ns t : List ℕ) (k : ℕ) → allFit ns ≡ true → k < length ns → le (p ++ (entryBytes ns ++ t)) (length p + 4 * k) 4 ≡ getD ns k 0
+unfolding allFit entryBytes
 entry-back p [] t k e h = absurd (omega arith)
 entry-back p (n ∷ ns) t zero e h =
     let a = else-true (ltb 0xFFFFFFFF n) _ e in
-    rw (append-assoc, add-zero) (le-back p 4 n (entriesOf ns ++ t) (omega (arith, ltb-false)))
+    rw (append-assoc, add-zero) (le-back p 4 n (entryBytes ns ++ t) (omega (arith, ltb-false)))
 entry-back p (n ∷ ns) t (suc k) e h =
     let a = else-true (ltb 0xFFFFFFFF n) _ e in
     let b = entry-back (p ++ leBytes 4 n) ns t k (a .1) (omega arith) in
-    let g : (p ++ leBytes 4 n) ++ (entriesOf ns ++ t) ≡ p ++ ((leBytes 4 n ++ entriesOf ns) ++ t) = simp append-assoc in
+    let g : (p ++ leBytes 4 n) ++ (entryBytes ns ++ t) ≡ p ++ ((leBytes 4 n ++ entryBytes ns) ++ t) = simp append-assoc in
     let l : length (p ++ leBytes 4 n) + 4 * k ≡ length p + 4 * suc k = rw length-append (omega (arith, length-leBytes 4 n)) in
     rw (g, l) at b
 
 -- what a packet's bytes say
 module _ (step : ℕ) (ns : List ℕ) (m : May step ns) where
-  steps : le (packetOf step ns) 16 4 ≡ step
-  unfolding packetOf
+  steps : le (locatorPacket step ns) 16 4 ≡ step
+  unfolding locatorPacket
   steps =
-      let a = rw length-header at (le-back (headerOf 0xFC (lengthOf ns)) 4 step (leBytes 4 (length ns) ++ entriesOf ns) (m .fits)) in
+      let a = rw length-header at (le-back (headerOf 0xFC (lengthOf ns)) 4 step (leBytes 4 (length ns) ++ entryBytes ns) (m .fits)) in
       simp append-assoc a
 
-  counted : le (packetOf step ns) 20 4 ≡ length ns
-  unfolding packetOf
+  counted : le (locatorPacket step ns) 20 4 ≡ length ns
+  unfolding locatorPacket
   counted =
       let h = headerOf 0xFC (lengthOf ns) in
       let l : length (h ++ leBytes 4 step) ≡ 20 = rw (length-append, length-header, length-leBytes) in
-      let a = rw l at (le-back (h ++ leBytes 4 step) 4 (length ns) (entriesOf ns) (let f = m .few in omega arith)) in
+      let a = rw l at (le-back (h ++ leBytes 4 step) 4 (length ns) (entryBytes ns) (let f = m .few in omega arith)) in
       simp append-assoc (simp append-assoc at a)
 
-  entry : (k : ℕ) → k < length ns → le (packetOf step ns) (24 + 4 * k) 4 ≡ getD ns k 0
-  unfolding packetOf
+  entry : (k : ℕ) → k < length ns → le (locatorPacket step ns) (24 + 4 * k) 4 ≡ getD ns k 0
+  unfolding locatorPacket
   entry k h =
       let p = headerOf 0xFC (lengthOf ns) ++ leBytes 4 step ++ leBytes 4 (length ns) in
       let l : length p ≡ 24 = rw (length-append, length-append, length-header, length-leBytes, length-leBytes) in
       rw (l, append-nil) at (entry-back p ns [] k (m .all) h)
 
-  pub table : tableOf (packetOf step ns) ≡ Table (record { step = step; count = length ns })
+  pub table : tableOf (locatorPacket step ns) ≡ Table (record { step = step; count = length ns })
   unfolding tableOf
   table =
       let few = m .few in let some = m .some in
       rw (steps, counted, length-packet step ns)
       (simp (le-ltb (lengthOf ns - 16) 8 (omega arith), le-ltb 1000 (length ns) few, ne-eqb step 0 (λ e. omega arith), le-ltb (lengthOf ns - 16) (8 + 4 * length ns) (omega arith)))
 
-  pub position : (d : ℕ) → d / step < length ns → positionOf (packetOf step ns) d ≡ At (1024 * getD ns (d / step) 0)
+  pub position : (d : ℕ) → d / step < length ns → positionOf (locatorPacket step ns) d ≡ At (1024 * getD ns (d / step) 0)
   unfolding positionOf
   position d h = simp (table, lt-ltb (d / step) (length ns) h, entry (d / step) h)
 
-  pub past : (d : ℕ) → length ns ≤ d / step → positionOf (packetOf step ns) d ≡ NoPosition (refusal 16 0)
+  pub past : (d : ℕ) → length ns ≤ d / step → positionOf (locatorPacket step ns) d ≡ NoPosition (refusal 16 0)
   unfolding positionOf
   past d h = simp (table, le-ltb (d / step) (length ns) h)
 
   -- its header, whatever follows
-  within : (r : List ℕ) → lengthOf ns ≤ length (packetOf step ns ++ r) - 0
+  within : (r : List ℕ) → lengthOf ns ≤ length (locatorPacket step ns ++ r) - 0
   within r = rw (length-append, length-packet step ns) (omega arith)
 
-  pub header : (r : List ℕ) → headerAt (packetOf step ns ++ r) 0 ≡ Whole (record { kind = 0xFC; len = lengthOf ns })
-  unfolding packetOf headerOf beBytes be
+  pub header : (r : List ℕ) → headerAt (locatorPacket step ns ++ r) 0 ≡ Whole (record { «packet_type» = 0xFC; len = lengthOf ns })
+  unfolding locatorPacket headerOf beBytes be
   header r =
       let few = m .few in
-      accepts (packetOf step ns ++ r) 0 (lengthOf ns) refl refl (omega arith) (omega arith) (omega arith) (within r)
+      accepts (locatorPacket step ns ++ r) 0 (lengthOf ns) refl refl (omega arith) (omega arith) (omega arith) (within r)
 
 -- a length was answered: what may be written was given, and there was room for it
 pub record Room (out : List ℕ) (at step : ℕ) (ns : List ℕ) (n : ℕ) : Type 0 where
@@ -122,8 +122,8 @@ pub record Room (out : List ℕ) (at step : ℕ) (ns : List ℕ) (n : ℕ) : Typ
   pub lens : n ≡ lengthOf ns
   pub room : at + lengthOf ns ≤ length out
 
-pub answered : (out : List ℕ) (at step : ℕ) (ns : List ℕ) (n : ℕ) → writeOf out at step ns ≡ Length n → Room out at step ns n
-unfolding writeOf
+pub answered : (out : List ℕ) (at step : ℕ) (ns : List ℕ) (n : ℕ) → locatorAnswer out at step ns ≡ Length n → Room out at step ns n
+unfolding locatorAnswer
 answered out at step ns n = go (mayWrite step ns) refl (ltb (length out - at) (lengthOf ns)) refl
   where
     go : (a : Bool) → mayWrite step ns ≡ a → (b : Bool) → ltb (length out - at) (lengthOf ns) ≡ b

@@ -1,4 +1,4 @@
--- The round trip: what was written at its place is read there as what was given, and the bytes before and after it are as they were.
+-- The round trip: what was locatorWrittenIn at its place is read there as what was given, and the bytes before and after it are as they were.
 use Prim.Native.Nat.{ℕ, _+_, _*_, _/_, _<_, _≤_}
 use mathlib.Core.Path.{_≡_, sym, _∙_, ap}
 use mathlib.Core.Bool.{true}
@@ -15,7 +15,7 @@ use Rattle.packet_writer.proofs.Laws.{framed, header-stands}
 use Rattle.locator.specs.Locator.{tableAt, positionAt}
 use Rattle.locator.specs.declared.LocatorAnswer.the-variants.{Table}
 use Rattle.locator.specs.declared.PositionAnswer.the-variants.{At, Refused as NoPosition}
-use Rattle.locator_writer.specs.Write.{lengthOf, packetOf, mayWrite, writeOf, written}
+use Rattle.locator_writer.specs.Write.{lengthOf, locatorPacket, mayWrite, locatorAnswer, locatorWrittenIn}
 use Rattle.packet_writer.specs.declared.WriteAnswer.the-variants.{Length, Refused}
 use Rattle.locator_writer.proofs.Laws.{length-packet, wrote}
 use Rattle.locator_writer.proofs.Back.{may, all-small, small-all, table, position, past, header, answered}
@@ -39,19 +39,19 @@ pub record ReadBack (out : List ℕ) (at step : ℕ) (ns : List ℕ) (n : ℕ) (
   pub after : drop (at + n) now ≡ drop (at + n) out
   pub lengths : length now ≡ length out
 
-pub round-trip : (out : List ℕ) (at step : ℕ) (ns : List ℕ) (n : ℕ) → writeOf out at step ns ≡ Length n → ReadBack out at step ns n (written out at step ns)
+pub round-trip : (out : List ℕ) (at step : ℕ) (ns : List ℕ) (n : ℕ) → locatorAnswer out at step ns ≡ Length n → ReadBack out at step ns n (locatorWrittenIn out at step ns)
 unfolding tableAt positionAt packetAt
 round-trip out at step ns n e =
     let a = answered out at step ns n e in
     let m = may step ns (a .may) in
-    let p = packetOf step ns in
+    let p = locatorPacket step ns in
     let lp = length-packet step ns in
     let lens = a .lens in
     let room = a .room in
     let w = wrote out at step ns (a .may) (a .room) .1 in
     let f = framed out at p (omega arith) in
     let now = over out at p in
-    let h : headerAt now at ≡ Whole (record { kind = 0xFC; len = lengthOf ns }) = header-stands out at p (omega arith) _ (header step ns m) in
+    let h : headerAt now at ≡ Whole (record { «packet_type» = 0xFC; len = lengthOf ns }) = header-stands out at p (omega arith) _ (header step ns m) in
     let b : take (lengthOf ns) (drop at now) ≡ p = ap (λ (k : ℕ). take k (drop at now)) (sym lp) ∙ f .stands in
     let some = m .some in
     let back : (k : ℕ) → k * step / step ≡ k = λ k. mul-div-cancel k some in
@@ -69,17 +69,17 @@ round-trip out at step ns n e =
       lengths = f .lengths;
     }
 
--- nothing is cut: what is written lies within its field, so that a number over 32 bits is always refused
-pub never-cut : (out : List ℕ) (at step : ℕ) (ns : List ℕ) (n : ℕ) → writeOf out at step ns ≡ Length n
+-- nothing is cut: what is locatorWrittenIn lies within its field, so that a number over 32 bits is always refused
+pub never-cut : (out : List ℕ) (at step : ℕ) (ns : List ℕ) (n : ℕ) → locatorAnswer out at step ns ≡ Length n
     → (0 < step) × (step ≤ 0xFFFFFFFF) × (length ns ≤ 1000) × ((k : ℕ) → getD ns k 0 ≤ 0xFFFFFFFF)
 never-cut out at step ns n e =
     let m = may step ns (answered out at step ns n e .may) in
     let fits = m .fits in
     (m .some, omega arith, m .few, all-small ns (m .all))
 
--- the other way: a table within its bounds is written wherever there is room for it
+-- the other way: a table within its bounds is locatorWrittenIn wherever there is room for it
 pub accepted : (out : List ℕ) (at step : ℕ) (ns : List ℕ) → 0 < step → step ≤ 0xFFFFFFFF → length ns ≤ 1000 → ((k : ℕ) → getD ns k 0 ≤ 0xFFFFFFFF)
-    → at + (24 + 4 * length ns) ≤ length out → writeOf out at step ns ≡ Length (24 + 4 * length ns)
+    → at + (24 + 4 * length ns) ≤ length out → locatorAnswer out at step ns ≡ Length (24 + 4 * length ns)
 unfolding mayWrite
 accepted out at step ns a b d f h =
     let m : mayWrite step ns ≡ true =
@@ -93,5 +93,5 @@ write-reads-back κs a n s p = rw (p .1) (round-trip (a .0 .now) (a .1 .0) (a .1
 
 pub refused-stays : (κs : Lfts 2) (a : Dens κs kinds.ps) (r : Refusal) (s : AtExit (endedOf 2 kinds.ps kinds.r) κs)
     → reads.Post κs a (Refused r) s → s .0 .now ≡ a .0 .now
-unfolding written
+unfolding locatorWrittenIn
 refused-stays κs a r s p = p .1 ∙ rw (← p .0)

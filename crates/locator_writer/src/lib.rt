@@ -5,7 +5,7 @@ ghost use mathlib.Core.Path.{_≡_};
 ghost use Prim.Native.Nat.{_+_, _*_, _≤_};
 ghost use lib.ListN.{length};
 ghost use lib.Seq.{sets};
-ghost use Rattle.locator_writer.specs.Write.{allFit, mayWrite, entriesOf, packetOf, writeOf, written};
+ghost use Rattle.locator_writer.specs.Write.{allFit, mayWrite, entryBytes, locatorPacket, locatorAnswer, locatorWrittenIn};
 
 // Whether every offset fits its four bytes.
 fn all_fit(offsets: &[u64]) -> bool
@@ -21,7 +21,7 @@ fn all_fit(offsets: &[u64]) -> bool
     true
 }
 
-// Whether a table of this step and these offsets may be written: else 24.
+// Whether a table of this step and these offsets may be locatorWrittenIn: else 24.
 fn may_write(step: u64, offsets: &[u64]) -> bool
     ensures { λ r. ⌜ r ≡ mayWrite step (now (offsets .entry)) ⌝ }
 {
@@ -40,7 +40,7 @@ fn may_write(step: u64, offsets: &[u64]) -> bool
 // Writes the entries, from a place on.
 fn put_entries(out: &mut [u8], at: usize, offsets: &[u64])
     requires { ⌜ at + 4 * length (now offsets) ≤ length (now out) ⌝ }
-    ensures { λ _. ⌜ now (out .exit) ≡ sets (now (out .entry)) at (entriesOf (now (offsets .entry))) ⌝ }
+    ensures { λ _. ⌜ now (out .exit) ≡ sets (now (out .entry)) at (entryBytes (now (offsets .entry))) ⌝ }
 {
     let mut k: usize = 0;
     while k < offsets.len() {
@@ -52,7 +52,7 @@ fn put_entries(out: &mut [u8], at: usize, offsets: &[u64])
 // Writes the packet at the start of the buffer.
 fn put_packet(out: &mut [u8], step: u64, offsets: &[u64])
     requires { ⌜ 24 + 4 * length (now offsets) ≤ length (now out) ⌝ }
-    ensures { λ _. ⌜ now (out .exit) ≡ sets (now (out .entry)) 0 (packetOf step (now (offsets .entry))) ⌝ }
+    ensures { λ _. ⌜ now (out .exit) ≡ sets (now (out .entry)) 0 (locatorPacket step (now (offsets .entry))) ⌝ }
 {
     packet_writer::put_header(out, packet::FLT, 24 + 4 * offsets.len());
     number::put_le(out, 16, step as usize, 4);
@@ -62,7 +62,7 @@ fn put_packet(out: &mut [u8], step: u64, offsets: &[u64])
 
 // Writes the packet at a place of the buffer, offsets in units of 1,024 bytes: refusals 24 and 13, in this order.
 pub fn write(out: &mut [u8], at: usize, step: u64, offsets: &[u64]) -> WriteAnswer
-    ensures { λ r. ⌜ (r ≡ writeOf (now (out .entry)) at step (now (offsets .entry))) × (now (out .exit) ≡ written (now (out .entry)) at step (now (offsets .entry))) ⌝ }
+    ensures { λ r. ⌜ (r ≡ locatorAnswer (now (out .entry)) at step (now (offsets .entry))) × (now (out .exit) ≡ locatorWrittenIn (now (out .entry)) at step (now (offsets .entry))) ⌝ }
 {
     if may_write(step, offsets) {
         let len = 24 + 4 * offsets.len();

@@ -12,18 +12,18 @@ use Rattle.number.proofs.Laws.{be-back, be-after, length-beBytes}
 use Rattle.packet.specs.Packet.{headerAt}
 use Rattle.packet.specs.declared.PacketAnswer.the-variants.{Whole}
 use Rattle.packet.proofs.Laws.{accepts}
-use Rattle.items.specs.Items.{sectionOf, bytesOf}
-use Rattle.items.proofs.Split as items
-use Rattle.track_section.specs.Tracks as tracks
-use Rattle.track_section.specs.Tracks.{tracksOf, judgeTracks, tracksVerdict, over}
-use Rattle.track_section.proofs.Split.{Sized}
-use Rattle.track_section.proofs.Split as split
-use Rattle.items.specs.Judge.{andThen, judgeItems, verdictOf}
-use Rattle.items.specs.declared.Verdict.the-variants.{Accepted}
-use Rattle.items.proofs.Anywhere.{verdict-bytes}
-use Rattle.items.specs.declared.Section.the-variants as section
+use Rattle.map_items.specs.Items.{sectionOf, itemsBytes}
+use Rattle.map_items.proofs.Split as items
+use Rattle.map_tracks.specs.Tracks as tracks
+use Rattle.map_tracks.specs.Tracks.{tracksOf, judgeTracks, tracksVerdict, over}
+use Rattle.map_tracks.proofs.Split.{Sized}
+use Rattle.map_tracks.proofs.Split as split
+use Rattle.map_items.specs.Judge.{andThen, judgeItems, verdictOf}
+use Rattle.map_items.specs.declared.Verdict.the-variants.{Accepted}
+use Rattle.map_items.proofs.Anywhere.{verdict-bytes}
+use Rattle.map_items.specs.declared.Section.the-variants as section
 use Rattle.map.specs.Map.{part, afterMaterial, layoutOf, materialIn, tracksIn, bothVerdict, sectionsVerdict, mapVerdict}
-use Rattle.map.specs.Said.{opened, partsOf}
+use Rattle.map.specs.ViewOfParts.{opened, partsOf}
 use Rattle.map.specs.Encode.{TrackParts, MapParts, described, padding, sectionBytes, packetLength, front, packetOf, encode}
 use Rattle.map.specs.declared.Layout.the-variants.{Both}
 use mathlib.Core.Bool.{true}
@@ -175,10 +175,10 @@ module _ (spare : List ℕ) (second : ℕ) (m t : List ℕ) (four : length spare
     unfolding packetOf front
     kinds = refl
 
-    pub header-encoded : headerAt p 0 ≡ Whole (record { kind = 0xBC; len = packetLength m t })
+    pub header-encoded : headerAt p 0 ≡ Whole (record { «packet_type» = 0xBC; len = packetLength m t })
     header-encoded =
         accepts p 0 (packetLength m t) leader trailer length-word (long .1) (long .2) (omega (arith, packet-length))
-        ∙ ap (λ (k : ℕ). Whole (record { kind = k; len = packetLength m t })) kinds
+        ∙ ap (λ (k : ℕ). Whole (record { «packet_type» = k; len = packetLength m t })) kinds
 
     -- the reserved bytes and the version byte
     cut-7 : p ≡ six ++ beBytes 4 (packetLength m t) ++ (spare ++ (0xE1 ∷ 0xE2 ∷ behind))
@@ -223,26 +223,26 @@ module _ (spare : List ℕ) (second : ℕ) (m t : List ℕ) (four : length spare
 -- a map of items and tracks, each of whose parts fits its length word, comes apart into them
 pub record Fit (p : MapParts) : Type 0 where
   pub four : length (p .spare) ≡ 4
-  pub material : length (bytesOf (p .material)) < 65536
-  pub tracks : length (tracks.bytesOf (map described (p .tracks))) < 65536
+  pub material : length (itemsBytes (p .material)) < 65536
+  pub tracks : length (tracks.descriptionsBytes (map described (p .tracks))) < 65536
   pub each : Sized (map described (p .tracks))
 
 module _ (p : MapParts) (f : Fit p) where
-  pub header-of-encoded : headerAt (encode p) 0 ≡ Whole (record { kind = 0xBC; len = length (encode p) })
+  pub header-of-encoded : headerAt (encode p) 0 ≡ Whole (record { «packet_type» = 0xBC; len = length (encode p) })
   unfolding encode
   header-of-encoded =
-      header-encoded (p .spare) (p .second) (bytesOf (p .material)) (tracks.bytesOf (map described (p .tracks))) (f .four) (f .material) (f .tracks)
-      ∙ ap (λ (n : ℕ). Whole (record { kind = 0xBC; len = n })) (sym (packet-length (p .spare) (p .second) (bytesOf (p .material)) (tracks.bytesOf (map described (p .tracks))) (f .four)))
+      header-encoded (p .spare) (p .second) (itemsBytes (p .material)) (tracks.descriptionsBytes (map described (p .tracks))) (f .four) (f .material) (f .tracks)
+      ∙ ap (λ (n : ℕ). Whole (record { «packet_type» = 0xBC; len = n })) (sym (packet-length (p .spare) (p .second) (itemsBytes (p .material)) (tracks.descriptionsBytes (map described (p .tracks))) (f .four)))
 
   pub material-of-encoded : sectionOf (materialIn (encode p) (layoutOf (encode p))) ≡ record { items = p .material; whole = true }
   unfolding encode
   material-of-encoded =
-      rw (material-encoded (p .spare) (p .second) (bytesOf (p .material)) (tracks.bytesOf (map described (p .tracks))) (f .four) (f .material) (f .tracks)) (items.section-bytes (p .material))
+      rw (material-encoded (p .spare) (p .second) (itemsBytes (p .material)) (tracks.descriptionsBytes (map described (p .tracks))) (f .four) (f .material) (f .tracks)) (items.section-bytes (p .material))
 
   pub tracks-of-encoded : tracksOf (tracksIn (encode p) (layoutOf (encode p))) ≡ record { list = map described (p .tracks); end = over }
   unfolding encode
   tracks-of-encoded =
-      rw (tracks-encoded (p .spare) (p .second) (bytesOf (p .material)) (tracks.bytesOf (map described (p .tracks))) (f .four) (f .material) (f .tracks))
+      rw (tracks-encoded (p .spare) (p .second) (itemsBytes (p .material)) (tracks.descriptionsBytes (map described (p .tracks))) (f .four) (f .material) (f .tracks))
       (split.section-bytes (map described (p .tracks)) (f .each))
 
 -- and each track into its items
@@ -259,11 +259,11 @@ opened-described (t ∷ ts) = rw (items.section-bytes (t .items), opened-describ
 module _ (p : MapParts) (f : Fit p) where
   spare-of-encoded : take 4 (drop 10 (encode p)) ≡ p .spare
   unfolding encode
-  spare-of-encoded = spare-encoded (p .spare) (p .second) (bytesOf (p .material)) (tracks.bytesOf (map described (p .tracks))) (f .four) (f .material) (f .tracks)
+  spare-of-encoded = spare-encoded (p .spare) (p .second) (itemsBytes (p .material)) (tracks.descriptionsBytes (map described (p .tracks))) (f .four) (f .material) (f .tracks)
 
   second-of-encoded : getD (encode p) 17 0 ≡ p .second
   unfolding encode
-  second-of-encoded = second-encoded (p .spare) (p .second) (bytesOf (p .material)) (tracks.bytesOf (map described (p .tracks))) (f .four) (f .material) (f .tracks)
+  second-of-encoded = second-encoded (p .spare) (p .second) (itemsBytes (p .material)) (tracks.descriptionsBytes (map described (p .tracks))) (f .four) (f .material) (f .tracks)
 
   pub parts-of-encoded : partsOf (encode p) ≡ p
   unfolding partsOf
@@ -271,8 +271,8 @@ module _ (p : MapParts) (f : Fit p) where
 
   -- and it is judged as they are
   pub verdict-of-encoded : mapVerdict (encode p)
-      ≡ andThen (andThen (judgeItems section.Material [] 20 (p .material)) Accepted) (judgeTracks [] (22 + length (bytesOf (p .material))) (map described (p .tracks)) over)
+      ≡ andThen (andThen (judgeItems section.Material [] 20 (p .material)) Accepted) (judgeTracks [] (22 + length (itemsBytes (p .material))) (map described (p .tracks)) over)
   unfolding encode tracksVerdict
   verdict-of-encoded =
-      verdict-encoded (p .spare) (p .second) (bytesOf (p .material)) (tracks.bytesOf (map described (p .tracks))) (f .four) (f .material) (f .tracks)
+      verdict-encoded (p .spare) (p .second) (itemsBytes (p .material)) (tracks.descriptionsBytes (map described (p .tracks))) (f .four) (f .material) (f .tracks)
       ∙ rw (verdict-bytes section.Material (p .material) 20, split.section-bytes (map described (p .tracks)) (f .each))

@@ -9,13 +9,13 @@ use lib.Dec.{ltb, eqb}
 use borrow.Author.Tests.{ltb-false}
 use Rattle.plate.specs.Choice.{pick}
 use Rattle.plate.specs.declared.Refusal.{Refusal}
-use Rattle.items.specs.Judge.{bad, verdictOf}
-use Rattle.items.specs.declared.Section.the-variants as section
-use Rattle.items.specs.declared.Verdict.the-variants.{Refused}
-use Rattle.items.proofs.Places.{at-place, either-part}
-use Rattle.items.proofs.Places as items
-use Rattle.track_section.specs.Tracks.{tracksVerdict}
-use Rattle.track_section.proofs.Faults as tracks
+use Rattle.map_items.specs.Judge.{bad, verdictOf}
+use Rattle.map_items.specs.declared.Section.the-variants as section
+use Rattle.map_items.specs.declared.Verdict.the-variants.{Refused}
+use Rattle.map_items.proofs.Places.{at-place, either-part}
+use Rattle.map_items.proofs.Places as items
+use Rattle.map_tracks.specs.Tracks.{tracksVerdict}
+use Rattle.map_tracks.proofs.Faults as tracks
 use Rattle.map.specs.Map.{part, layoutOf, bothVerdict, sectionsVerdict, mapVerdict}
 use Rattle.map.specs.declared.Layout.{Layout}
 use Rattle.map.specs.declared.Layout.the-variants.{Both, One, Neither}

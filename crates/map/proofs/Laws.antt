@@ -12,11 +12,11 @@ use Rattle.number.specs.Number.{be}
 use Rattle.map.specs.Map.{part, afterMaterial, layoutOf, tracksIn, tracksAt, listedIn}
 use Rattle.map.specs.declared.Layout.{Layout}
 use Rattle.map.specs.declared.Layout.the-variants.{Both, One, Neither}
-use Rattle.items.specs.declared.Part.the-variants.{At}
-use Rattle.answer.specs.declared.Track.{Track}
-use Rattle.track_section.specs.Tracks.{idOf}
-use Rattle.track_section.specs.declared.Kth.the-variants.{Record}
-use Rattle.track_section.proofs.Places.{name-stands}
+use Rattle.map_items.specs.declared.Part.the-variants.{At}
+use Rattle.map_answer.specs.declared.Track.{Track}
+use Rattle.map_tracks.specs.Tracks.{idOf}
+use Rattle.map_tracks.specs.declared.Kth.the-variants.{Record}
+use Rattle.map_tracks.proofs.Places.{name-stands}
 
 -- a layout whose ends stand in their order, up to a length
 abbrev pub Within : ℕ → Layout → Type 0

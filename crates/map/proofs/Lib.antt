@@ -5,6 +5,6 @@ pub mod Most
 pub mod Numbers
 pub mod Once
 pub mod Parts
-pub mod Said
+pub mod ViewOfParts
 pub mod Samples
 pub mod Within

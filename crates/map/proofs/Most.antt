@@ -5,8 +5,8 @@ use mathlib.Core.List.{List}
 use lib.ListN.{length, drop}
 use Rattle.number.proofs.Laws.{Bytes}
 use Rattle.number.proofs.Bytes.{one-by-one, bytes-take, bytes-drop}
-use Rattle.items.specs.declared.Verdict.the-variants.{Accepted}
-use Rattle.track_section.proofs.Most.{section-64}
+use Rattle.map_items.specs.declared.Verdict.the-variants.{Accepted}
+use Rattle.map_tracks.proofs.Most.{section-64}
 use Rattle.map.specs.Map.{part, mapVerdict, listedIn}
 use Rattle.map.proofs.Parts.{accepted-sections}
 

@@ -9,12 +9,12 @@ use Rattle.plate.specs.declared.Refusal.{Refusal}
 use Rattle.packet.specs.Packet.{sizedAt, headerAt, ifType, packetAt}
 use Rattle.packet.specs.declared.PacketAnswer.{PacketAnswer}
 use Rattle.packet.specs.declared.PacketAnswer.the-variants as packet
-use Rattle.items.proofs.Numbers.{either, Among, Own, both, section-own}
-use Rattle.items.specs.Judge.{bad, has, verdictOf}
-use Rattle.items.specs.declared.Section.the-variants as section
-use Rattle.items.specs.declared.Verdict.{Verdict}
-use Rattle.items.specs.declared.Verdict.the-variants as verdict
-use Rattle.track_section.specs.Tracks.{Description, End, over, short, hangs, onBytes, trackVerdict, endVerdict, judgeTracks, tracksVerdict, tracksOf}
+use Rattle.map_items.proofs.Numbers.{either, Among, Own, both, section-own}
+use Rattle.map_items.specs.Judge.{bad, has, verdictOf}
+use Rattle.map_items.specs.declared.Section.the-variants as section
+use Rattle.map_items.specs.declared.Verdict.{Verdict}
+use Rattle.map_items.specs.declared.Verdict.the-variants as verdict
+use Rattle.map_tracks.specs.Tracks.{Description, End, over, short, hangs, onBytes, trackVerdict, endVerdict, judgeTracks, tracksVerdict, tracksOf}
 use Rattle.map.specs.Map.{part, layoutOf, bothVerdict, sectionsVerdict, mapVerdict, onVerdict, answerOf, mapFrom, mapAt}
 use Rattle.map.specs.declared.Layout.{Layout}
 use Rattle.map.specs.declared.Layout.the-variants.{Both, One, Neither}
@@ -38,13 +38,13 @@ header-numbers s at =
     (omega arith, omega arith))
     (omega arith, omega arith))
 
-pub packet-numbers : (s : List ℕ) (at kind : ℕ) → OfHeader 6 (packetAt s at kind)
+pub packet-numbers : (s : List ℕ) (at typeByte : ℕ) → OfHeader 6 (packetAt s at typeByte)
 unfolding packetAt
-packet-numbers s at kind = go (headerAt s at) (header-numbers s at)
+packet-numbers s at typeByte = go (headerAt s at) (header-numbers s at)
   where
-    go : (a : PacketAnswer) → OfHeader 5 a → OfHeader 6 (ifType at kind a)
+    go : (a : PacketAnswer) → OfHeader 5 a → OfHeader 6 (ifType at typeByte a)
     go (packet.Refused r) h = (h .0, omega (arith, h .1))
-    go (packet.Whole p) h = either (OfHeader 6) (eqb (p .kind) kind) tt (omega arith, omega arith)
+    go (packet.Whole p) h = either (OfHeader 6) (eqb (p .«packet_type») typeByte) tt (omega arith, omega arith)
 
 -- ---- the map's own
 bytes-own : (k i p : ℕ) (v : Verdict) → Own v → Own (onBytes k i p v)
@@ -60,9 +60,9 @@ tracks-own : (ids : List ℕ) (p : ℕ) (ds : List Description) (e : End) → Ow
 unfolding judgeTracks trackVerdict
 tracks-own ids p [] e = end-own p e
 tracks-own ids p (d ∷ ds) e =
-    bytes-own (d .kind) (d .id) p _
+    bytes-own (d .typeByte) (d .id) p _
     (either Own (has (d .id) ids) (omega arith, omega arith)
-    (both (trackVerdict (d .kind) (d .items) (p + 4)) (judgeTracks (d .id ∷ ids) (p + 4 + length (d .items)) ds e) (both (verdictOf section.Track (d .items) (p + 4)) verdict.Accepted (section-own section.Track (d .items) (p + 4)) tt) (tracks-own (d .id ∷ ids) (p + 4 + length (d .items)) ds e)))
+    (both (trackVerdict (d .typeByte) (d .items) (p + 4)) (judgeTracks (d .id ∷ ids) (p + 4 + length (d .items)) ds e) (both (verdictOf section.Track (d .items) (p + 4)) verdict.Accepted (section-own section.Track (d .items) (p + 4)) tt) (tracks-own (d .id ∷ ids) (p + 4 + length (d .items)) ds e)))
 
 sections-own : (p : List ℕ) (l : Layout) → Own (sectionsVerdict p l)
 unfolding sectionsVerdict bothVerdict tracksVerdict

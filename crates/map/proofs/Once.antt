@@ -45,7 +45,7 @@ pub id-of-once : OneAnswer 1 id-of-kinds.ps id-of-kinds.r id-of-reads.Post
 id-of-once κs a x y s t p q = p ∙ sym q
 
 pub types-of-once : OneAnswer 1 types-of-kinds.ps types-of-kinds.r types-of-reads.Post
-types-of-once κs a x y s t p q = ap (λ (k : List ℕ). record { kinds = k }) (p ∙ sym q)
+types-of-once κs a x y s t p q = ap (λ (k : List ℕ). record { «media_types» = k }) (p ∙ sym q)
 
 pub answer-of-once : OneAnswer 1 answer-of-kinds.ps answer-of-kinds.r answer-of-reads.Post
 answer-of-once κs a x y s t p q = p ∙ sym q

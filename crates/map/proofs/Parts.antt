@@ -12,19 +12,19 @@ use Rattle.plate.specs.Choice.{pick}
 use Rattle.number.specs.Number.{be}
 use Rattle.number.proofs.Laws.{Bytes, be-lt}
 use Rattle.number.proofs.Bytes.{one-by-one, bytes-take, bytes-drop}
-use Rattle.items.specs.Items.{sectionOf, bytesOf}
-use Rattle.items.specs.Judge.{bad, andThen, judgeItems, verdictOf}
-use Rattle.items.specs.declared.Section.the-variants as section
-use Rattle.items.specs.declared.Verdict.the-variants.{Accepted}
-use Rattle.items.proofs.Split as items
-use Rattle.items.proofs.Anywhere.{not-accepted, both-accepted, judge-anywhere, verdict-accepted}
-use Rattle.track_section.specs.Tracks.{Description, End, over, tracksOf, judgeTracks, tracksVerdict}
-use Rattle.track_section.specs.Tracks as tracks
-use Rattle.track_section.proofs.Split as split
-use Rattle.track_section.proofs.Anywhere.{track-whole, passed, accepted-over, tracks-anywhere}
+use Rattle.map_items.specs.Items.{sectionOf, itemsBytes}
+use Rattle.map_items.specs.Judge.{bad, andThen, judgeItems, verdictOf}
+use Rattle.map_items.specs.declared.Section.the-variants as section
+use Rattle.map_items.specs.declared.Verdict.the-variants.{Accepted}
+use Rattle.map_items.proofs.Split as items
+use Rattle.map_items.proofs.Anywhere.{not-accepted, both-accepted, judge-anywhere, verdict-accepted}
+use Rattle.map_tracks.specs.Tracks.{Description, End, over, tracksOf, judgeTracks, tracksVerdict}
+use Rattle.map_tracks.specs.Tracks as tracks
+use Rattle.map_tracks.proofs.Split as split
+use Rattle.map_tracks.proofs.Anywhere.{track-whole, passed, accepted-over, tracks-anywhere}
 use Rattle.map.specs.Map.{part, afterMaterial, layoutOf, materialIn, tracksIn, bothVerdict, sectionsVerdict, mapVerdict}
 use Rattle.map.specs.Encode.{MapParts, described, encode}
-use Rattle.map.specs.Said.{opened, partsOf, Good}
+use Rattle.map.specs.ViewOfParts.{opened, partsOf, Good}
 use Rattle.map.specs.declared.Layout.{Layout}
 use Rattle.map.specs.declared.Layout.the-variants.{Both, One, Neither}
 use Rattle.map.proofs.Laws.{part-length}
@@ -66,7 +66,7 @@ whole-tracks ids p [] e h = refl
 whole-tracks ids p (d ∷ ds) e h =
     let w = passed ids p d ds e h in
     rw (
-      described-opened d (track-whole (d .kind) (d .items) (p + 4) (w .items)),
+      described-opened d (track-whole (d .typeByte) (d .items) (p + 4) (w .items)),
       whole-tracks (d .id ∷ ids) (p + 4 + length (d .items)) ds e (w .rest),
     )
 
@@ -104,11 +104,11 @@ module _ (m : List ℕ) (b : Bytes m) (h : mapVerdict m ≡ Accepted) where
   ends = accepted-over [] (s .a + 2) ds _ judged
 
   -- the material items are the bytes of their section, and so are the tracks
-  pub material-bytes : bytesOf (partsOf m .material) ≡ materialIn m (layoutOf m)
+  pub material-bytes : itemsBytes (partsOf m .material) ≡ materialIn m (layoutOf m)
   unfolding partsOf
   material-bytes = rw (s .layout) (items.section-whole (part 20 (s .a) m) (verdict-accepted section.Material (part 20 (s .a) m) 20 (s .material) .1))
 
-  pub tracks-bytes : tracks.bytesOf (map described (partsOf m .tracks)) ≡ tracksIn m (layoutOf m)
+  pub tracks-bytes : tracks.descriptionsBytes (map described (partsOf m .tracks)) ≡ tracksIn m (layoutOf m)
   unfolding partsOf ds
   tracks-bytes =
       let p = part (s .a + 2) (s .e) m in
@@ -132,7 +132,7 @@ module _ (m : List ℕ) (b : Bytes m) (h : mapVerdict m ≡ Accepted) where
 
   pub parts-fit : Fit (partsOf m)
   parts-fit =
-      let t : length (tracks.bytesOf (map described (partsOf m .tracks))) < 65536 = rw tracks-bytes tracks-under in
+      let t : length (tracks.descriptionsBytes (map described (partsOf m .tracks))) < 65536 = rw tracks-bytes tracks-under in
       record {
         four = spare;
         material = rw material-bytes material-under;
@@ -154,10 +154,10 @@ module _ (m : List ℕ) (b : Bytes m) (h : mapVerdict m ≡ Accepted) where
 pub good-encoded : (p : MapParts) → Fit p → Good p → mapVerdict (encode p) ≡ Accepted
 good-encoded p f g =
     verdict-of-encoded p f
-    ∙ rw (judge-anywhere section.Material [] 0 20 (p .material) (g .0), tracks-anywhere [] 0 (22 + length (bytesOf (p .material))) (map described (p .tracks)) (g .1))
+    ∙ rw (judge-anywhere section.Material [] 0 20 (p .material) (g .0), tracks-anywhere [] 0 (22 + length (itemsBytes (p .material))) (map described (p .tracks)) (g .1))
 
 pub encoded-good : (p : MapParts) → Fit p → mapVerdict (encode p) ≡ Accepted → Good p
 encoded-good p f h =
     let a = both-accepted (andThen (judgeItems section.Material [] 20 (p .material)) Accepted) _ (sym (verdict-of-encoded p f) ∙ h) in
     let b = both-accepted (judgeItems section.Material [] 20 (p .material)) Accepted (a .0) in
-    (judge-anywhere section.Material [] 20 0 (p .material) (b .0), tracks-anywhere [] (22 + length (bytesOf (p .material))) 0 (map described (p .tracks)) (a .1))
+    (judge-anywhere section.Material [] 20 0 (p .material) (b .0), tracks-anywhere [] (22 + length (itemsBytes (p .material))) 0 (map described (p .tracks)) (a .1))

@@ -1,14 +1,14 @@
 -- The bench maps of 01 as bytes: M, M with an unknown item and M with a reserved rate, and what such maps say.
 use Prim.Native.Nat.{ℕ}
 use mathlib.Core.List.{List, [], _∷_, _++_}
-use Rattle.items.specs.declared.Part.the-variants as part
-use Rattle.answer.specs.declared.Value.{Value}
-use Rattle.answer.specs.declared.Value.the-variants as value
+use Rattle.map_items.specs.declared.Part.the-variants as part
+use Rattle.map_answer.specs.declared.Value.{Value}
+use Rattle.map_answer.specs.declared.Value.the-variants as value
 use Rattle.map.specs.declared.MapSays.{MapSays}
 
 -- a header of a type and a length under 256
 abbrev pub headed : ℕ → ℕ → List ℕ
-headed kind len = 0 ∷ 0 ∷ 0 ∷ 0 ∷ 1 ∷ kind ∷ 0 ∷ 0 ∷ 0 ∷ len ∷ 0 ∷ 0 ∷ 0 ∷ 0 ∷ 0xE1 ∷ 0xE2 ∷ []
+headed typeByte len = 0 ∷ 0 ∷ 0 ∷ 0 ∷ 1 ∷ typeByte ∷ 0 ∷ 0 ∷ 0 ∷ len ∷ 0 ∷ 0 ∷ 0 ∷ 0 ∷ 0xE1 ∷ 0xE2 ∷ []
 
 -- the bench map of 01: its payload's front, with the track section's length and the track's, and its rate item
 abbrev pub upToRate : ℕ → ℕ → List ℕ

@@ -11,8 +11,8 @@ use Rattle.number.proofs.Laws.{be-after, be-take}
 use Rattle.packet.specs.Packet.{headerAt, packetAt}
 use Rattle.packet.specs.declared.PacketAnswer.the-variants as packet
 use Rattle.packet.proofs.Laws.{accepts, whole}
-use Rattle.items.specs.declared.Verdict.the-variants as verdict
-use Rattle.track_section.specs.Tracks.{kthOf}
+use Rattle.map_items.specs.declared.Verdict.the-variants as verdict
+use Rattle.map_tracks.specs.Tracks.{kthOf}
 use Rattle.map.specs.Map.{part, mapVerdict, answerOf, onKth, trackIn, mapAt, trackAt, materialSays, listedIn}
 use Rattle.map.specs.declared.MapAnswer.the-variants as answer
 
@@ -31,19 +31,19 @@ module _ (a m b : List ℕ) where
   pub part-there : part (length a) (length a + length m) (a ++ (m ++ b)) ≡ m
   part-there = rw (add-sub-cancel-left, drop-append-seam a (m ++ b)) (take-append-seam m b)
 
-  module _ (h : headerAt m 0 ≡ packet.Whole (record { kind = 0xBC; len = length m })) where
-    header-there : headerAt s (length a) ≡ packet.Whole (record { kind = 0xBC; len = length m })
+  module _ (h : headerAt m 0 ≡ packet.Whole (record { «packet_type» = 0xBC; len = length m })) where
+    header-there : headerAt s (length a) ≡ packet.Whole (record { «packet_type» = 0xBC; len = length m })
     unfolding s
     header-there =
-        let g = whole m 0 (record { kind = 0xBC; len = length m }) h in
+        let g = whole m 0 (record { «packet_type» = 0xBC; len = length m }) h in
         let leader : be s (length a) 5 ≡ 1 = rw add-zero at (number-there 0 5 (omega (arith, g .least))) ∙ g .leader in
         let trailer : be s (length a + 14) 2 ≡ 0xE1E2 = number-there 14 2 (omega (arith, g .least)) ∙ g .trailer in
         let long : be s (length a + 6) 4 ≡ length m = number-there 6 4 (omega (arith, g .least)) ∙ sym (g .lens) in
         let within : length m ≤ length s - length a = omega (arith, length-append a (m ++ b), length-append m b) in
-        let kind : getD s (length a + 5) 0 ≡ 0xBC = byte-there 5 (omega (arith, g .least)) ∙ sym (g .kinds) in
-        accepts s (length a) (length m) leader trailer long (g .least) (g .fours) within ∙ ap (λ (k : ℕ). packet.Whole (record { kind = k; len = length m })) kind
+        let typeByte : getD s (length a + 5) 0 ≡ 0xBC = byte-there 5 (omega (arith, g .least)) ∙ sym (g .kinds) in
+        accepts s (length a) (length m) leader trailer long (g .least) (g .fours) within ∙ ap (λ (k : ℕ). packet.Whole (record { «packet_type» = k; len = length m })) typeByte
 
-    pub packet-there : packetAt (a ++ (m ++ b)) (length a) 0xBC ≡ packet.Whole (record { kind = 0xBC; len = length m })
+    pub packet-there : packetAt (a ++ (m ++ b)) (length a) 0xBC ≡ packet.Whole (record { «packet_type» = 0xBC; len = length m })
     unfolding packetAt s
     packet-there = rw header-there
 

@@ -5,13 +5,13 @@ use Prim.Native.Nat.{ℕ, _+_, _-_, _%_}
 use mathlib.Core.List.{List, [], _∷_, _++_, map}
 use lib.ListN.{length, replicate}
 use Rattle.number.specs.Number.{beBytes}
-use Rattle.items.specs.Items.{Item, bytesOf}
-use Rattle.track_section.specs.Tracks as tracks
-use Rattle.track_section.specs.Tracks.{Description}
+use Rattle.map_items.specs.Items.{Item, itemsBytes}
+use Rattle.map_tracks.specs.Tracks as tracks
+use Rattle.map_tracks.specs.Tracks.{Description}
 
 -- a track's type byte, ID byte and items
 pub record TrackParts : Type 0 where
-  pub kind : ℕ
+  pub typeByte : ℕ
   pub id : ℕ
   pub items : List Item
 
@@ -24,7 +24,7 @@ pub record MapParts : Type 0 where
 
 -- a track as its bytes are described
 unfoldable pub described : TrackParts → Description
-described t = record { kind = t .kind; id = t .id; items = bytesOf (t .items) }
+described t = record { typeByte = t .typeByte; id = t .id; items = itemsBytes (t .items) }
 
 -- the fewest zeros that make a multiple of 4
 unfoldable pub padding : ℕ → ℕ
@@ -49,4 +49,4 @@ packetOf spare second m t =
 
 -- a packet of items and tracks
 unfoldable pub encode : MapParts → List ℕ
-encode p = packetOf (p .spare) (p .second) (bytesOf (p .material)) (tracks.bytesOf (map described (p .tracks)))
+encode p = packetOf (p .spare) (p .second) (itemsBytes (p .material)) (tracks.descriptionsBytes (map described (p .tracks)))

@@ -1,4 +1,4 @@
 pub mod Encode
 pub mod Map
-pub mod Said
-pub mod Shown
+pub mod ViewOfParts
+pub mod View

@@ -10,16 +10,16 @@ use Rattle.number.specs.Number.{be}
 use Rattle.packet.specs.Packet.{packetAt}
 use Rattle.packet.specs.declared.PacketAnswer.{PacketAnswer}
 use Rattle.packet.specs.declared.PacketAnswer.the-variants as packet
-use Rattle.items.specs.Items.{sectionOf}
-use Rattle.items.specs.Judge.{bad, andThen, verdictOf}
-use Rattle.items.specs.declared.Section.the-variants as section
-use Rattle.items.specs.declared.Verdict.{Verdict}
-use Rattle.items.specs.declared.Verdict.the-variants as verdict
-use Rattle.answer.specs.Answer.{materialOf}
-use Rattle.answer.specs.declared.Material.{Material}
-use Rattle.track_section.specs.Tracks.{Placed, tracksOf, tracksVerdict, listed, kthOf, typesOf}
-use Rattle.track_section.specs.declared.Kth.{Kth}
-use Rattle.track_section.specs.declared.Kth.the-variants as kth
+use Rattle.map_items.specs.Items.{sectionOf}
+use Rattle.map_items.specs.Judge.{bad, andThen, verdictOf}
+use Rattle.map_items.specs.declared.Section.the-variants as section
+use Rattle.map_items.specs.declared.Verdict.{Verdict}
+use Rattle.map_items.specs.declared.Verdict.the-variants as verdict
+use Rattle.map_answer.specs.Answer.{materialOf}
+use Rattle.map_answer.specs.declared.Material.{Material}
+use Rattle.map_tracks.specs.Tracks.{Placed, tracksOf, tracksVerdict, listed, kthOf, typesOf}
+use Rattle.map_tracks.specs.declared.Kth.{Kth}
+use Rattle.map_tracks.specs.declared.Kth.the-variants as kth
 use Rattle.map.specs.declared.Layout.{Layout}
 use Rattle.map.specs.declared.Layout.the-variants.{Both, One, Neither}
 use Rattle.map.specs.declared.MapAnswer.{MapAnswer}

@@ -1,18 +1,18 @@
 // The map reader: the verdict on a map packet, its material answer, its listed tracks by number, and their IDs with types.
 // `read` and `track` take lent bytes and a position. The functions `.._of` take the bytes of one packet whose header was read, up to its length;
 // what those that give no verdict say is 01's answer where `verdict_of` accepts, and of other bytes what the lengths alone give.
-use answer::Material;
-use answer::Track;
-use items::Section;
-use items::Verdict;
+use map_answer::Material;
+use map_answer::Track;
+use map_items::Section;
+use map_items::Verdict;
 use packet::PacketAnswer;
 use plate::Refusal;
-use track_section::Kth;
-use track_section::Types;
+use map_tracks::Kth;
+use map_tracks::Types;
 ghost use mathlib.Core.Path.{_≡_};
 ghost use Prim.Native.Nat.{_+_, _≤_};
 ghost use lib.ListN.{length};
-ghost use Rattle.track_section.specs.Tracks.{kthOf, idOf};
+ghost use Rattle.map_tracks.specs.Tracks.{kthOf, idOf};
 ghost use Rattle.map.specs.Map.{afterMaterial, layoutOf, materialIn, tracksIn, tracksAt, bothVerdict, sectionsVerdict, mapVerdict, materialSays, listedIn, typesIn, answerOf, trackIn, mapAt, trackAt};
 
 // Where a map's two sections end, by their length words alone; the material section begins at 20.
@@ -111,11 +111,11 @@ fn judge_both(p: &[u8], a: usize, e: usize) -> Verdict
     requires { ⌜ (20 ≤ a) × (a + 2 ≤ e) × (e ≤ length (now p)) ⌝ }
     ensures { λ r. ⌜ r ≡ bothVerdict (now (p .entry)) a e ⌝ }
 {
-    match items::judge(Section::Material, &p[20..a], 20) {
+    match map_items::judge(Section::Material, &p[20..a], 20) {
         Verdict::Refused(r) => Verdict::Refused(r),
         Verdict::Accepted => {
             let b = a + 2;
-            track_section::judge(&p[b..e], b)
+            map_tracks::judge(&p[b..e], b)
         }
     }
 }
@@ -125,9 +125,9 @@ fn judge_one(p: &[u8], a: usize) -> Verdict
     requires { ⌜ (20 ≤ a) × (a ≤ length (now p)) ⌝ }
     ensures { λ r. ⌜ r ≡ sectionsVerdict (now (p .entry)) (Layout.One a) ⌝ }
 {
-    match items::judge(Section::Material, &p[20..a], 20) {
+    match map_items::judge(Section::Material, &p[20..a], 20) {
         Verdict::Refused(r) => Verdict::Refused(r),
-        Verdict::Accepted => items::refused(plate::OVERHANG, a),
+        Verdict::Accepted => map_items::refused(plate::OVERHANG, a),
     }
 }
 
@@ -136,15 +136,15 @@ pub fn verdict_of(p: &[u8]) -> Verdict
     ensures { λ r. ⌜ r ≡ mapVerdict (now (p .entry)) ⌝ }
 {
     if p.len() < 18 {
-        return items::refused(plate::OVERHANG, 16);
+        return map_items::refused(plate::OVERHANG, 16);
     }
     if p[16] != 0xE0 {
-        return items::refused(plate::MAP_VERSION, 16);
+        return map_items::refused(plate::MAP_VERSION, 16);
     }
     match layout_of(p) {
         Layout::Both(a, e) => judge_both(p, a, e),
         Layout::One(a) => judge_one(p, a),
-        Layout::Neither => items::refused(plate::OVERHANG, 18),
+        Layout::Neither => map_items::refused(plate::OVERHANG, 18),
     }
 }
 
@@ -152,35 +152,35 @@ pub fn verdict_of(p: &[u8]) -> Verdict
 pub fn material_of(p: &[u8]) -> Material
     ensures { λ r. ⌜ r ≡ materialSays (now (p .entry)) ⌝ }
 {
-    answer::material_says(material_part(p), 20)
+    map_answer::material_says(material_part(p), 20)
 }
 
 // The number of tracks that a map packet's bytes list.
 pub fn count_of(p: &[u8]) -> usize
     ensures { λ r. ⌜ r ≡ length (listedIn (now (p .entry))) ⌝ }
 {
-    track_section::count(track_part(p))
+    map_tracks::count(track_part(p))
 }
 
 // The record of the k-th listed track, from 0.
 pub fn kth_of(p: &[u8], k: usize) -> Kth
     ensures { λ r. ⌜ r ≡ kthOf k (listedIn (now (p .entry))) ⌝ }
 {
-    track_section::kth_record(track_part(p), first_track(p), k)
+    map_tracks::kth_record(track_part(p), first_track(p), k)
 }
 
 // The record of the listed track of an ID.
 pub fn id_of(p: &[u8], id: usize) -> Kth
     ensures { λ r. ⌜ r ≡ idOf id (listedIn (now (p .entry))) ⌝ }
 {
-    track_section::record_of_id(track_part(p), first_track(p), id)
+    map_tracks::record_of_id(track_part(p), first_track(p), id)
 }
 
 // The listed IDs with their types.
 pub fn types_of(p: &[u8]) -> Types
-    ensures { λ r. ⌜ r .kinds ≡ typesIn (now (p .entry)) ⌝ }
+    ensures { λ r. ⌜ r .«media_types» ≡ typesIn (now (p .entry)) ⌝ }
 {
-    track_section::types_by_id(track_part(p))
+    map_tracks::types_by_id(track_part(p))
 }
 
 // The answer of a map packet's bytes, or its first fault.

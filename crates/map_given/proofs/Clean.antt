@@ -10,8 +10,8 @@ use lib.Dec.{ltb, leb, eqb}
 use Rattle.plate.specs.Choice.{pick}
 use Rattle.text.specs.Text.{textOk}
 use Rattle.media_type.specs.MediaType.{knownType}
-use Rattle.items.specs.Judge.{has}
-use Rattle.items.proofs.Anywhere.{never}
+use Rattle.map_items.specs.Judge.{has}
+use Rattle.map_items.proofs.Anywhere.{never}
 use Rattle.map_given.specs.declared.Slot.{Slot}
 use Rattle.map_given.specs.Given.{slotAt, slots, materialSlots, Given, tracksGiven}
 use Rattle.map_given.specs.Faults.{isText, isEight, fits, reads, slotFault, graver, slotsFault, given, nullName, barred, ownFault, tracksFault, idFault, idsFault, faultOf}
@@ -70,9 +70,9 @@ known-under k e = go (leb k 26) refl
     go true q = leb-true k 26 q
     go false q = absurd (let n = known-over k (leb-false k 26 q) in let z : false ≡ true = sym n ∙ e in let y : _≡_ {A = ℕ} 0 1 = cc in omega arith)
 
-pub own-known : (t : Given) → ownFault t ≡ 0 → knownType (t .kind) ≡ true
+pub own-known : (t : Given) → ownFault t ≡ 0 → knownType (t .mediaType) ≡ true
 unfolding ownFault
-own-known t = go (knownType (t .kind))
+own-known t = go (knownType (t .mediaType))
   where
     go : (a : Bool) → _≡_ {A = ℕ} (pick a (pick (barred (t .slots)) 24 (pick (given 0x4D (t .slots)) (pick (given 0x4F (t .slots)) 10 0) 0)) 24) 0 → a ≡ true
     go true h = refl
@@ -96,7 +96,7 @@ ids-narrow ids (t ∷ ts) h =
 -- what is not barred: no 4D, 4E or 4F is given beside a null name
 pub not-barred : (t : Given) → ownFault t ≡ 0 → barred (t .slots) ≡ false
 unfolding ownFault
-not-barred t = go (knownType (t .kind)) (barred (t .slots))
+not-barred t = go (knownType (t .mediaType)) (barred (t .slots))
   where
     go : (a b : Bool) → _≡_ {A = ℕ} (pick a (pick b 24 (pick (given 0x4D (t .slots)) (pick (given 0x4F (t .slots)) 10 0) 0)) 24) 0 → b ≡ false
     go true true e = absurd (omega arith)
@@ -116,7 +116,7 @@ hidden-none ss = go (nullName ss) (given 0x4D ss) (given 0x4E ss) (given 0x4F ss
 
 pub not-both : (t : Given) → ownFault t ≡ 0 → given 0x4F (t .slots) ≡ true → given 0x4D (t .slots) ≡ false
 unfolding ownFault
-not-both t = go (knownType (t .kind)) (barred (t .slots)) (given 0x4D (t .slots)) (given 0x4F (t .slots))
+not-both t = go (knownType (t .mediaType)) (barred (t .slots)) (given 0x4D (t .slots)) (given 0x4F (t .slots))
   where
     go : (a b x y : Bool) → _≡_ {A = ℕ} (pick a (pick b 24 (pick x (pick y 10 0) 0)) 24) 0 → y ≡ true → x ≡ false
     go true true x y e f = absurd (omega arith)

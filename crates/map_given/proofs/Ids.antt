@@ -9,7 +9,7 @@ use lib.ListN.{length, getD, set, replicate, length-set, length-replicate, getD-
 use lib.Seq.{getD-set-same, getD-set-other}
 use lib.Dec.{ltb, eqb}
 use Rattle.plate.specs.Choice.{pick}
-use Rattle.items.specs.Judge.{has}
+use Rattle.map_items.specs.Judge.{has}
 use Rattle.map_given.specs.Given.{tracksFrom, tracksGiven}
 use Rattle.map_given.specs.Flags.{flagFault, flagged}
 use Rattle.map_given.specs.Faults.{graver, idFault, idsFault}

@@ -11,8 +11,8 @@ use lib.Seq.{drop-cons}
 use lib.Dec.{ltb, leb, eqb}
 use Rattle.plate.specs.Choice.{pick}
 use Rattle.text.specs.Text.{textOk}
-use Rattle.items.specs.Judge.{has}
-use Rattle.answer.specs.Answer.{allowed}
+use Rattle.map_items.specs.Judge.{has}
+use Rattle.map_answer.specs.Answer.{allowed}
 use Rattle.map_given.specs.declared.Slot.{Slot}
 use Rattle.map_given.specs.Given.{slotAt, slots, trackAt, tracksFrom}
 use Rattle.map_given.specs.Faults.{isText, fits, slotFault, graver, slotsFault, given, nullName, ownFault, tracksFault}

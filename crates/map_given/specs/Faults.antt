@@ -7,8 +7,8 @@ use lib.Dec.{ltb, leb, eqb}
 use Rattle.plate.specs.Choice.{pick}
 use Rattle.text.specs.Text.{textOk}
 use Rattle.media_type.specs.MediaType.{knownType}
-use Rattle.items.specs.Judge.{has}
-use Rattle.answer.specs.Answer.{allowed}
+use Rattle.map_items.specs.Judge.{has}
+use Rattle.map_answer.specs.Answer.{allowed}
 use Rattle.map_given.specs.Given.{materialSlots, Given, tracksGiven}
 use Rattle.map_given.specs.declared.Slot.{Slot}
 
@@ -28,8 +28,8 @@ unfoldable pub codeFits : ℕ → ℕ → Bool
 codeFits tag n = pick (eqb n 0xFFFFFFFFFFFFFFFF) true (pick (eqb n 0xFFFFFFFFFFFFFFFE) true (allowed tag n))
 
 -- the part of the text that a slot names, and whether it lies in it
-abbrev pub partOf : List ℕ → Slot → List ℕ
-partOf text s = take (s .second) (drop (s .first) text)
+abbrev pub slotPart : List ℕ → Slot → List ℕ
+slotPart text s = take (s .second) (drop (s .first) text)
 
 abbrev pub inside : List ℕ → Slot → Bool
 inside text s = leb (s .first + s .second) (length text)
@@ -44,7 +44,7 @@ fits text s =
 
 -- whether a present slot's text keeps the text rule once its 00 is added
 unfoldable pub reads : List ℕ → Slot → Bool
-reads text s = pick (isText (s .tag)) (textOk (partOf text s ++ (0 ∷ []))) true
+reads text s = pick (isText (s .tag)) (textOk (slotPart text s ++ (0 ∷ []))) true
 
 -- a slot's fault, 0 for none: 24, for a mark other than 0 and 1 too; then 11
 unfoldable pub slotFault : List ℕ → Slot → ℕ
@@ -75,7 +75,7 @@ barred ss = pick (nullName ss) (pick (given 0x4D ss) true (pick (given 0x4E ss) 
 
 -- a track's own fault: 24 for a type outside Table 5 and for what is barred; 10 for 4D beside 4F
 unfoldable pub ownFault : Given → ℕ
-ownFault t = pick (knownType (t .kind)) (pick (barred (t .slots)) 24 (pick (given 0x4D (t .slots)) (pick (given 0x4F (t .slots)) 10 0) 0)) 24
+ownFault t = pick (knownType (t .mediaType)) (pick (barred (t .slots)) 24 (pick (given 0x4D (t .slots)) (pick (given 0x4F (t .slots)) 10 0) 0)) 24
 
 unfoldable pub tracksFault : List ℕ → List Given → ℕ
 tracksFault text [] = 0

@@ -21,13 +21,13 @@ materialSlots ms = slots 6 ms 0 0x40
 
 -- a track: its media type and ID, bare, and seven slots, for tags 4C to 52
 pub record Given : Type 0 where
-  pub kind : ℕ
+  pub mediaType : ℕ
   pub id : ℕ
   pub slots : List Slot
 
 -- a track's record has 23 words
 abbrev pub trackAt : List ℕ → ℕ → Given
-trackAt ts at = record { kind = getD ts at 0; id = getD ts (at + 1) 0; slots = slots 7 ts (at + 2) 0x4C }
+trackAt ts at = record { mediaType = getD ts at 0; id = getD ts (at + 1) 0; slots = slots 7 ts (at + 2) 0x4C }
 
 -- n tracks, one after another
 unfoldable pub tracksFrom : ℕ → List ℕ → ℕ → List Given

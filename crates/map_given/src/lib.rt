@@ -159,7 +159,7 @@ fn code_fits(tag: u8, n: u64) -> bool
     if 8 < n {
         return false;
     }
-    answer::is_allowed(tag, n as u32)
+    map_answer::is_allowed(tag, n as u32)
 }
 
 // Whether a part lies in a text of n bytes.
@@ -277,11 +277,11 @@ fn own_fault(ts: &[u64], at: usize) -> u8
     requires { ⌜ at + 23 ≤ length (now ts) ⌝ }
     ensures { λ r. ⌜ r ≡ ownFault (trackAt (now (ts .entry)) at) ⌝ }
 {
-    let kind = ts[at];
-    if 255 < kind {
+    let media_type = ts[at];
+    if 255 < media_type {
         return plate::BARRED;
     }
-    if media_type::is_known(kind as u8) {
+    if media_type::is_known(media_type as u8) {
         if is_barred(ts, at) {
             return plate::BARRED;
         }

@@ -11,22 +11,22 @@ use lib.Dec.{eqb}
 use Rattle.plate.specs.Choice.{pick}
 use Rattle.number.specs.Number.{beBytes}
 use Rattle.number.proofs.Laws.{length-beBytes}
-use Rattle.items.specs.Items.{Item}
-use Rattle.items.specs.Judge.{formOf, isKnown, faultOf, countsAs, has, judgeItems}
-use Rattle.items.specs.declared.Form.{Form}
-use Rattle.items.specs.declared.Form.the-variants.{Text, Sized}
-use Rattle.items.specs.declared.Section.{Section}
-use Rattle.items.specs.declared.Section.the-variants as section
-use Rattle.items.specs.declared.Verdict.the-variants.{Accepted}
-use Rattle.items.proofs.Anywhere.{verdict-bytes}
-use Rattle.track_section.specs.Tracks.{Description, over, trackVerdict, endVerdict, judgeTracks}
-use Rattle.track_section.proofs.Anywhere.{Passed, pass}
+use Rattle.map_items.specs.Items.{Item}
+use Rattle.map_items.specs.Judge.{formOf, isKnown, faultOf, countsAs, has, judgeItems}
+use Rattle.map_items.specs.declared.Form.{Form}
+use Rattle.map_items.specs.declared.Form.the-variants.{Text, Sized}
+use Rattle.map_items.specs.declared.Section.{Section}
+use Rattle.map_items.specs.declared.Section.the-variants as section
+use Rattle.map_items.specs.declared.Verdict.the-variants.{Accepted}
+use Rattle.map_items.proofs.Anywhere.{verdict-bytes}
+use Rattle.map_tracks.specs.Tracks.{Description, over, trackVerdict, endVerdict, judgeTracks}
+use Rattle.map_tracks.proofs.Anywhere.{Passed, pass}
 use Rattle.map.specs.Encode.{TrackParts, described}
-use Rattle.map.specs.Said.{Good}
+use Rattle.map.specs.ViewOfParts.{Good}
 use Rattle.map_given.specs.declared.Slot.{Slot}
 use Rattle.map_given.specs.Given.{slotAt, slots, materialSlots, trackAt, tracksFrom}
 use Rattle.map_given.specs.Faults.{isText, isEight, slotFault, slotsFault, given, ownFault, tracksFault, idFault, idsFault}
-use Rattle.map_writer.specs.Write.{valueOf, itemsOf, partsOfTrack, partsOf}
+use Rattle.map_writer.specs.Write.{slotValue, itemsOf, partsOfTrack, partsGiven}
 use Rattle.map_given.proofs.Laws.{none-graver}
 use Rattle.map_given.proofs.Clean.{present-fits, eight-fits, tracks-clean, Clean, reads-text, not-both, id-fresh}
 
@@ -40,8 +40,8 @@ Known section [] = Unit {0}
 Known section (s ∷ ss) = (formOf section (s .tag) ≡ shapeOf (s .tag)) × Known section ss
 
 -- an item of a slot without fault has none
-item-fine : (text : List ℕ) (s : Slot) → s .mark ≡ 1 → slotFault text s ≡ 0 → faultOf (shapeOf (s .tag)) (valueOf text s) ≡ 0
-unfolding faultOf valueOf
+item-fine : (text : List ℕ) (s : Slot) → s .mark ≡ 1 → slotFault text s ≡ 0 → faultOf (shapeOf (s .tag)) (slotValue text s) ≡ 0
+unfolding faultOf slotValue
 item-fine text s e h = go (isText (s .tag)) refl (isEight (s .tag)) refl
   where
     go : (a : Bool) → isText (s .tag) ≡ a → (b : Bool) → isEight (s .tag) ≡ b
@@ -155,10 +155,10 @@ judge-slots text ws section (suc n) at t p seen k h b f =
     go : (x : Bool) → eqb (getD ws at 0) 1 ≡ x → slotFault text (slotAt ws at t) ≡ 0
         → ((q : ℕ) → Free seen (slots n ws (at + 3) (t + 1)) → judgeItems section seen q (itemsOf text (slots n ws (at + 3) (t + 1))) ≡ Accepted)
         → ((q : ℕ) → Free (countsAs t ∷ seen) (slots n ws (at + 3) (t + 1)) → judgeItems section (countsAs t ∷ seen) q (itemsOf text (slots n ws (at + 3) (t + 1))) ≡ Accepted)
-        → judgeItems section seen p (pick x (record { tag = t; value = valueOf text (slotAt ws at t) } ∷ itemsOf text (slots n ws (at + 3) (t + 1))) (itemsOf text (slots n ws (at + 3) (t + 1)))) ≡ Accepted
+        → judgeItems section seen p (pick x (record { tag = t; value = slotValue text (slotAt ws at t) } ∷ itemsOf text (slots n ws (at + 3) (t + 1))) (itemsOf text (slots n ws (at + 3) (t + 1)))) ≡ Accepted
     go true e z absent present =
         rw (k .0, item-fine text (slotAt ws at t) (eqb-true (getD ws at 0) 1 e) z, shape-known t, fresh ws n at t seen e b f)
-        (present (p + 2 + length (valueOf text (slotAt ws at t))) (free-present ws n at t seen e f))
+        (present (p + 2 + length (slotValue text (slotAt ws at t))) (free-present ws n at t seen e f))
     go false e z absent present = absent p (free-absent ws n at t seen e f)
 
 -- nothing has been seen at first
@@ -188,12 +188,12 @@ unfolding judgeTracks endVerdict
 no-track ids p = refl
 
 -- a track that passes
-made : (ids : List ℕ) (p : ℕ) (t : TrackParts) (ds : List Description) → 0x80 ≤ t .kind → 0xC0 ≤ t .id → has (t .id) ids ≡ false
+made : (ids : List ℕ) (p : ℕ) (t : TrackParts) (ds : List Description) → 0x80 ≤ t .typeByte → 0xC0 ≤ t .id → has (t .id) ids ≡ false
     → judgeItems section.Track [] (p + 4) (t .items) ≡ Accepted
     → judgeTracks (t .id ∷ ids) (p + 4 + length (described t .items)) ds over ≡ Accepted
     → Passed ids p (described t) ds over
 unfolding described trackVerdict
-made ids p t ds k i f g r = record { kind = k; id = i; fresh = f; items = rw (verdict-bytes section.Track (t .items) (p + 4), g); rest = r }
+made ids p t ds k i f g r = record { typeByte = k; id = i; fresh = f; items = rw (verdict-bytes section.Track (t .items) (p + 4), g); rest = r }
 
 -- the slots of the material, and of a track
 pub material-good : (text ms : List ℕ) (p : ℕ) → slotsFault text (materialSlots ms) ≡ 0 → judgeItems section.Material [] p (itemsOf text (materialSlots ms)) ≡ Accepted
@@ -231,6 +231,6 @@ module _ (text ts : List ℕ) where
       (made marked p (partsOfTrack text t) (map described (map (partsOfTrack text) (tracksFrom n ts (at + 23)))) (omega arith) (omega arith) (f (t .id) ∙ id-fresh ids (t .id) (i .0)) (track-good text ts at (p + 4) (c .0) (c .1))
       (judge-tracks n (at + 23) (p + 4 + length (described (partsOfTrack text t) .items)) (t .id ∷ ids) ((0xC0 + t .id) ∷ marked) (same-more ids marked (t .id) f) (c .2) (i .1)))
 
-pub parts-good : (text ms ts : List ℕ) → Clean text ms ts → Good (partsOf text ms ts)
-unfolding partsOf
+pub parts-good : (text ms ts : List ℕ) → Clean text ms ts → Good (partsGiven text ms ts)
+unfolding partsGiven
 parts-good text ms ts c = (material-good text ms 0 (c .material), judge-tracks text ts (length ts / 23) 0 0 [] [] (λ x. none-same x) (c .tracks) (c .ids))

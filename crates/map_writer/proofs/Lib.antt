@@ -7,5 +7,5 @@ pub mod PutTracks
 pub mod Puts
 pub mod Readers
 pub mod RoundTrip
-pub mod Told
+pub mod ViewGiven
 pub mod Worked

@@ -8,21 +8,21 @@ use borrow.Author.Tests.{lt-ltb, eqb-true}
 use lib.Dec.{ltb, eqb}
 use lib.IntN.{pos, negsuc}
 use Rattle.plate.specs.Choice.{pick}
-use Rattle.items.specs.Judge.{has}
-use Rattle.answer.specs.Answer.{allowed, nothing, number, meaningOf}
-use Rattle.answer.specs.declared.Code.the-variants as code
-use Rattle.map.specs.Shown.{TrackShown}
+use Rattle.map_items.specs.Judge.{has}
+use Rattle.map_answer.specs.Answer.{allowed, nothing, number, meaningOf}
+use Rattle.map_answer.specs.declared.Code.the-variants as code
+use Rattle.map.specs.View.{TrackView}
 use Rattle.map_given.specs.declared.Slot.{Slot}
 use Rattle.map_given.specs.Given.{slotAt, trackAt, tracksFrom}
 use Rattle.map_given.specs.Faults.{isText, isEight, isCode, codeFits, fits, slotFault, tracksFault}
 use Rattle.map_given.proofs.Laws.{allowed-over}
 use Rattle.map_given.proofs.Clean.{present-fits, slot-of, tracks-clean}
-use Rattle.map_writer.specs.Told.{codeTold, trackTold, tracksTold}
+use Rattle.map_writer.specs.ViewGiven.{codeGiven, trackViewGiven, trackViewsGiven}
 use Rattle.map_writer.specs.Meaning.{signedWord, meant, Codes, codesGiven}
 
 -- the code of a slot without fault: −1, −2, or a value of Table 6, which is small
-pub code-meant : (text : List ℕ) (s : Slot) → slotFault text s ≡ 0 → isText (s .tag) ≡ false → isEight (s .tag) ≡ false → isCode (s .tag) ≡ true → meaningOf (codeTold s) ≡ meant s
-unfolding codeTold meant signedWord meaningOf fits codeFits
+pub code-meant : (text : List ℕ) (s : Slot) → slotFault text s ≡ 0 → isText (s .tag) ≡ false → isEight (s .tag) ≡ false → isCode (s .tag) ≡ true → meaningOf (codeGiven s) ≡ meant s
+unfolding codeGiven meant signedWord meaningOf fits codeFits
 code-meant text s h f g c = go (eqb (s .mark) 1) refl
   where
     word : (x : Bool) → eqb (s .first) 0xFFFFFFFFFFFFFFFF ≡ x → (y : Bool) → eqb (s .first) 0xFFFFFFFFFFFFFFFE ≡ y → pick x true (pick y true (allowed (s .tag) (s .first))) ≡ true
@@ -40,11 +40,11 @@ code-meant text s h f g c = go (eqb (s .mark) 1) refl
     go false e = refl
 
 -- the codes of a track that is shown
-unfoldable pub codesShown : TrackShown → Codes
+unfoldable pub codesShown : TrackView → Codes
 codesShown t = record { rate = meaningOf (t .rate); lines = meaningOf (t .lines); fields = meaningOf (t .fields) }
 
-pub codes-told : (text ts : List ℕ) (n at : ℕ) → tracksFault text (tracksFrom n ts at) ≡ 0 → map codesShown (tracksTold n text ts at) ≡ codesGiven n ts at
-unfolding tracksFrom tracksTold codesGiven codesShown trackTold isText isEight isCode has
+pub codes-told : (text ts : List ℕ) (n at : ℕ) → tracksFault text (tracksFrom n ts at) ≡ 0 → map codesShown (trackViewsGiven n text ts at) ≡ codesGiven n ts at
+unfolding tracksFrom trackViewsGiven codesGiven codesShown trackViewGiven isText isEight isCode has
 codes-told text ts zero at h = refl
 codes-told text ts (suc n) at h =
     let c = tracks-clean text (trackAt ts at) (tracksFrom n ts (at + 23)) h in

@@ -12,7 +12,7 @@ use lib.Dec.{ltb}
 use Rattle.number.specs.Number.{beBytes}
 use Rattle.number.proofs.Laws.{length-beBytes}
 use Rattle.number.proofs.Stores.{sets-append}
-use Rattle.items.specs.Items.{bytesOf}
+use Rattle.map_items.specs.Items.{itemsBytes}
 use Rattle.packet_writer.specs.Write.{headerOf, over, refused, ifRoom}
 use Rattle.packet_writer.specs.declared.WriteAnswer.the-variants.{Length}
 use Rattle.map.specs.Encode as encode
@@ -21,7 +21,7 @@ use Rattle.map.proofs.Encoded.{front-length, packet-length}
 use Rattle.map_given.specs.Given.{materialSlots, tracksGiven}
 use Rattle.map_writer.specs.Sizes.{slotsSize, tracksSize, tracksBytes}
 use Rattle.map_given.specs.Faults.{faultOf}
-use Rattle.map_writer.specs.Write.{itemsOf, partsOf, packetOf, materialLength, tracksLength, writeOf, written}
+use Rattle.map_writer.specs.Write.{itemsOf, partsGiven, mapPacket, materialLength, tracksLength, mapAnswer, mapWrittenIn}
 use Rattle.map_writer.proofs.Laws.{slots-under}
 use Rattle.map_writer.proofs.Puts.{slots-length}
 use Rattle.map_writer.proofs.PutTracks.{tracks-length}
@@ -97,16 +97,16 @@ module _ (l m t : List ℕ) (len pad : ℕ) where
 -- the packet of an input
 module _ (text ms ts : List ℕ) where
   abbrev pub m : List ℕ
-  m = bytesOf (itemsOf text (materialSlots ms))
+  m = itemsBytes (itemsOf text (materialSlots ms))
 
   abbrev pub t : List ℕ
   t = tracksBytes text (tracksGiven ts)
 
-  pub packet-is : packetOf text ms ts ≡ encode.packetOf zeros 0xFF m t
-  unfolding packetOf partsOf encode tracksBytes
+  pub packet-is : mapPacket text ms ts ≡ encode.packetOf zeros 0xFF m t
+  unfolding mapPacket partsGiven encode tracksBytes
   packet-is = refl
 
-  pub packet-long : length (packetOf text ms ts) ≡ packetLength m t
+  pub packet-long : length (mapPacket text ms ts) ≡ packetLength m t
   packet-long = ap length packet-is ∙ packet-length zeros 0xFF m t refl
 
   module _ (c : Clean text ms ts) where
@@ -116,7 +116,7 @@ module _ (text ms ts : List ℕ) where
     pub tracks-size : length t ≡ tracksSize (tracksGiven ts)
     tracks-size = tracks-length text (tracksGiven ts) (c .tracks)
 
-    pub packet-size : length (packetOf text ms ts) ≡ 22 + slotsSize (materialSlots ms) + tracksSize (tracksGiven ts) + padding (22 + slotsSize (materialSlots ms) + tracksSize (tracksGiven ts))
+    pub packet-size : length (mapPacket text ms ts) ≡ 22 + slotsSize (materialSlots ms) + tracksSize (tracksGiven ts) + padding (22 + slotsSize (materialSlots ms) + tracksSize (tracksGiven ts))
     unfolding packetLength
     packet-size = packet-long ∙ rw (material-size, tracks-size)
 
@@ -129,7 +129,7 @@ module _ (text ms ts : List ℕ) where
         (sets (sets (sets (sets (sets l 0 (front (22 + a + b + pad) zeros 0xFF)) 18 (beBytes 2 a)) 20 m) (20 + a) (beBytes 2 b)) (22 + a) t)
         (22 + a + b)
         (replicate pad 0)
-        ≡ sets l 0 (packetOf text ms ts)
+        ≡ sets l 0 (mapPacket text ms ts)
     unfolding packetLength encode.packetOf
     packet-runs l a b pad e f g =
         let p : a ≡ length m = e ∙ sym material-size in
@@ -138,8 +138,8 @@ module _ (text ms ts : List ℕ) where
 
 -- the outcomes of a call
 module _ (out : List ℕ) (at : ℕ) (text ms ts : List ℕ) where
-  pub faulty : (n : ℕ) → n ≡ faultOf text ms ts → (n ≡ 0 → ⊥) → (writeOf out at text ms ts ≡ refused n) × (written out at text ms ts ≡ out)
-  unfolding writeOf written
+  pub faulty : (n : ℕ) → n ≡ faultOf text ms ts → (n ≡ 0 → ⊥) → (mapAnswer out at text ms ts ≡ refused n) × (mapWrittenIn out at text ms ts ≡ out)
+  unfolding mapAnswer mapWrittenIn
   faulty n e h = rw (← e) (simp (ne-eqb n 0 h) (refl, refl))
 
   module _ (f : faultOf text ms ts ≡ 0) where
@@ -152,37 +152,37 @@ module _ (out : List ℕ) (at : ℕ) (text ms ts : List ℕ) where
     abbrev pub len : ℕ
     len = 22 + a + b + padding (22 + a + b)
 
-    short : materialLength (partsOf text ms ts) ≤ 65535
-    unfolding partsOf
+    short : materialLength (partsGiven text ms ts) ≤ 65535
+    unfolding partsGiven
     short = let g = clean text ms ts f in let h = material-size text ms ts g in let k = material-short text ms ts g in omega arith
 
-    long : tracksLength (partsOf text ms ts) ≡ b
-    unfolding partsOf tracksBytes
+    long : tracksLength (partsGiven text ms ts) ≡ b
+    unfolding partsGiven tracksBytes
     long = tracks-size text ms ts (clean text ms ts f)
 
-    pub section-over : 65535 < b → (writeOf out at text ms ts ≡ refused 25) × (written out at text ms ts ≡ out)
-    unfolding writeOf written
+    pub section-over : 65535 < b → (mapAnswer out at text ms ts ≡ refused 25) × (mapWrittenIn out at text ms ts ≡ out)
+    unfolding mapAnswer mapWrittenIn
     section-over h =
         simp (
           f,
-          le-ltb 65535 (materialLength (partsOf text ms ts)) short,
-          lt-ltb 65535 (tracksLength (partsOf text ms ts)) (omega (arith, long)),
+          le-ltb 65535 (materialLength (partsGiven text ms ts)) short,
+          lt-ltb 65535 (tracksLength (partsGiven text ms ts)) (omega (arith, long)),
         ) (refl, refl)
 
     module _ (h : b ≤ 65535) where
-      answer-is : writeOf out at text ms ts ≡ ifRoom out at (length (packetOf text ms ts))
-      unfolding writeOf
+      answer-is : mapAnswer out at text ms ts ≡ ifRoom out at (length (mapPacket text ms ts))
+      unfolding mapAnswer
       answer-is =
-          simp (f, le-ltb 65535 (materialLength (partsOf text ms ts)) short, le-ltb 65535 (tracksLength (partsOf text ms ts)) (omega (arith, long)))
+          simp (f, le-ltb 65535 (materialLength (partsGiven text ms ts)) short, le-ltb 65535 (tracksLength (partsGiven text ms ts)) (omega (arith, long)))
 
-      pub no-room : ltb (length out - at) len ≡ true → (writeOf out at text ms ts ≡ refused 13) × (written out at text ms ts ≡ out)
-      unfolding written
+      pub no-room : ltb (length out - at) len ≡ true → (mapAnswer out at text ms ts ≡ refused 13) × (mapWrittenIn out at text ms ts ≡ out)
+      unfolding mapWrittenIn
       no-room e = simp (answer-is, packet-size text ms ts (clean text ms ts f), e) (refl, refl)
 
-      pub wrote : ltb (length out - at) len ≡ false → (writeOf out at text ms ts ≡ Length len) × (written out at text ms ts ≡ over out at (packetOf text ms ts))
-      unfolding written
+      pub wrote : ltb (length out - at) len ≡ false → (mapAnswer out at text ms ts ≡ Length len) × (mapWrittenIn out at text ms ts ≡ over out at (mapPacket text ms ts))
+      unfolding mapWrittenIn
       wrote e =
           let p = packet-size text ms ts (clean text ms ts f) in
-          let q : ltb (length out - at) (length (packetOf text ms ts)) ≡ false = rw p e in
-          let w : writeOf out at text ms ts ≡ Length (length (packetOf text ms ts)) = answer-is ∙ simp q in
+          let q : ltb (length out - at) (length (mapPacket text ms ts)) ≡ false = rw p e in
+          let w : mapAnswer out at text ms ts ≡ Length (length (mapPacket text ms ts)) = answer-is ∙ simp q in
           (w ∙ ap Length p, rw w)

@@ -8,8 +8,8 @@ use lib.Seq.{sets}
 use Rattle.number.specs.Number.{beBytes}
 use Rattle.number.proofs.Laws.{length-beBytes}
 use Rattle.number.proofs.Stores.{sets-append}
-use Rattle.items.specs.Items.{bytesOf}
-use Rattle.track_section.specs.Tracks as tracks
+use Rattle.map_items.specs.Items.{itemsBytes}
+use Rattle.map_tracks.specs.Tracks as tracks
 use Rattle.map.specs.Encode.{described}
 use Rattle.map_given.specs.Given.{slots, Given, trackAt, tracksFrom}
 use Rattle.map_writer.specs.Sizes.{slotsSize, tracksSize, tracksBytes}
@@ -22,8 +22,8 @@ use Rattle.map_given.proofs.Clean.{tracks-clean, Narrow, known-under, own-known
 
 -- a track: two bytes, the length and the items
 pub track-bytes : (text : List ℕ) (t : Given) → slotsFault text (t .slots) ≡ 0
-    → tracksBytes text (t ∷ []) ≡ (0x80 + t .kind) ∷ (0xC0 + t .id) ∷ (beBytes 2 (slotsSize (t .slots)) ++ bytesOf (itemsOf text (t .slots)))
-unfolding tracksBytes tracks.bytesOf described
+    → tracksBytes text (t ∷ []) ≡ (0x80 + t .mediaType) ∷ (0xC0 + t .id) ∷ (beBytes 2 (slotsSize (t .slots)) ++ itemsBytes (itemsOf text (t .slots)))
+unfolding tracksBytes tracks.descriptionsBytes described
 track-bytes text t h = rw (slots-length text (t .slots) h, append-nil)
 
 pub track-run : (l v : List ℕ) (pos k i n : ℕ) → sets (sets (set (set l pos k) (pos + 1) i) (pos + 2) (beBytes 2 n)) (pos + 4) v ≡ sets l pos (k ∷ i ∷ (beBytes 2 n ++ v))
@@ -33,14 +33,14 @@ track-run l v pos k i n = rw (item-run l (beBytes 2 n) pos k i) (sets-append (k 
 pub track-length : (text : List ℕ) (t : Given) → slotsFault text (t .slots) ≡ 0 → length (tracksBytes text (t ∷ [])) ≡ 4 + slotsSize (t .slots)
 track-length text t h =
     let n = slotsSize (t .slots) in
-    rw (track-bytes text t h) (omega (arith, length-append (beBytes 2 n) (bytesOf (itemsOf text (t .slots))), length-beBytes 2 n, slots-length text (t .slots) h))
+    rw (track-bytes text t h) (omega (arith, length-append (beBytes 2 n) (itemsBytes (itemsOf text (t .slots))), length-beBytes 2 n, slots-length text (t .slots) h))
 
 pub tracks-cons : (text : List ℕ) (t : Given) (ts : List Given) → tracksBytes text (t ∷ ts) ≡ tracksBytes text (t ∷ []) ++ tracksBytes text ts
-unfolding tracksBytes tracks.bytesOf
+unfolding tracksBytes tracks.descriptionsBytes
 tracks-cons text t ts = simp (append-nil, append-assoc)
 
 no-bytes : (text : List ℕ) → length (tracksBytes text []) ≡ 0
-unfolding tracksBytes tracks.bytesOf
+unfolding tracksBytes tracks.descriptionsBytes
 no-bytes text = refl
 
 pub tracks-length : (text : List ℕ) (ts : List Given) → tracksFault text ts ≡ 0 → length (tracksBytes text ts) ≡ tracksSize ts
@@ -73,8 +73,8 @@ module _ (whole text ts : List ℕ) (size : ℕ) (out : List ℕ) (to at left : 
   pub track-narrow : (t .id < 64) × Narrow rest
   track-narrow = rw (tracks-more left ts at h) at (l .narrow)
 
-  pub track-kind : t .kind < 128
-  track-kind = let k = known-under (t .kind) (own-known t (track-clean .0)) in omega arith
+  pub track-type : t .mediaType < 128
+  track-type = let k = known-under (t .mediaType) (own-known t (track-clean .0)) in omega arith
 
   pub track-room : to + (4 + slotsSize (t .slots)) + tracksSize rest ≤ size
   track-room = let r = l .room in omega (arith, tracks-size-turn ts left at h)
@@ -94,5 +94,5 @@ module _ (whole text ts : List ℕ) (size : ℕ) (out : List ℕ) (to at left : 
       }
 
 pub tracks-done : (whole text ts : List ℕ) (size : ℕ) (out : List ℕ) (to at left : ℕ) → left ≤ 0 → TracksLeft whole text ts size out to at left → out ≡ whole
-unfolding tracksBytes tracks.bytesOf
+unfolding tracksBytes tracks.descriptionsBytes
 tracks-done whole text ts size out to at left h l = rw (no-tracks left ts at h) at (l .same)

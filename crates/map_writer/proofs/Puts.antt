@@ -13,15 +13,15 @@ use borrow.Author.Tests.{eq-eqb, ne-eqb, eqb-true, eqb-false, le-ltb}
 use Rattle.plate.specs.Choice.{pick}
 use Rattle.number.specs.Number.{beBytes}
 use Rattle.number.proofs.Laws.{length-beBytes}
-use Rattle.items.specs.Items.{bytesOf}
-use Rattle.items.specs.Judge.{has}
+use Rattle.map_items.specs.Items.{itemsBytes}
+use Rattle.map_items.specs.Judge.{has}
 use Rattle.map_given.specs.declared.Slot.{Slot}
 use Rattle.map_given.specs.Given.{slotAt, slots}
 use Rattle.map_writer.specs.Sizes.{slotSize, slotsSize}
 use Rattle.map_given.proofs.Laws.{text-fits, none-graver, slots-more, no-slots}
 use Rattle.map_writer.proofs.Laws.{slots-size-turn}
 use Rattle.map_given.specs.Faults.{isText, isEight, slotFault, slotsFault}
-use Rattle.map_writer.specs.Write.{valueOf, itemsOf}
+use Rattle.map_writer.specs.Write.{slotValue, itemsOf}
 use Rattle.map_given.proofs.Clean.{present-fits, eight-fits}
 
 -- one byte more at the end of a run
@@ -55,28 +55,28 @@ text-run l v pos tag n m e =
     rw (item-run l v pos tag n, a) (byte-more (tag ∷ n ∷ v) l pos (2 + m) 0 b)
 
 module _ (text : List ℕ) (s : Slot) where
-  item-bytes : (v : List ℕ) → s .mark ≡ 1 → valueOf text s ≡ v → bytesOf (itemsOf text (s ∷ [])) ≡ s .tag ∷ length v ∷ v
-  unfolding itemsOf bytesOf
+  item-bytes : (v : List ℕ) → s .mark ≡ 1 → slotValue text s ≡ v → itemsBytes (itemsOf text (s ∷ [])) ≡ s .tag ∷ length v ∷ v
+  unfolding itemsOf itemsBytes
   item-bytes v e f = simp (eq-eqb (s .mark) 1 e, f, append-nil)
 
   pub text-bytes : s .mark ≡ 1 → isText (s .tag) ≡ true → s .first + s .second ≤ length text
-      → bytesOf (itemsOf text (s ∷ [])) ≡ s .tag ∷ (s .second + 1) ∷ (take (s .second) (drop (s .first) text) ++ (0 ∷ []))
-  unfolding valueOf
+      → itemsBytes (itemsOf text (s ∷ [])) ≡ s .tag ∷ (s .second + 1) ∷ (take (s .second) (drop (s .first) text) ++ (0 ∷ []))
+  unfolding slotValue
   text-bytes e f h =
       let v = take (s .second) (drop (s .first) text) in
       let l : length v ≡ s .second = length-take-le (s .second) (drop (s .first) text) (simp length-drop (omega arith)) in
       let k : length (v ++ (0 ∷ [])) ≡ s .second + 1 = length-append v (0 ∷ []) ∙ omega arith in
       item-bytes (v ++ (0 ∷ [])) e (rw f) ∙ ap (λ (n : ℕ). s .tag ∷ n ∷ (v ++ (0 ∷ []))) k
 
-  pub eight-bytes : s .mark ≡ 1 → s .tag ≡ 0x4D → s .second ≡ 8 → s .first + 8 ≤ length text → bytesOf (itemsOf text (s ∷ [])) ≡ 0x4D ∷ 8 ∷ take 8 (drop (s .first) text)
-  unfolding valueOf isText isEight has
+  pub eight-bytes : s .mark ≡ 1 → s .tag ≡ 0x4D → s .second ≡ 8 → s .first + 8 ≤ length text → itemsBytes (itemsOf text (s ∷ [])) ≡ 0x4D ∷ 8 ∷ take 8 (drop (s .first) text)
+  unfolding slotValue isText isEight has
   eight-bytes e f g h =
       let v = take 8 (drop (s .first) text) in
       let l : length v ≡ 8 = length-take-le 8 (drop (s .first) text) (simp length-drop (omega arith)) in
       item-bytes v e (rw (f, g)) ∙ rw (f, l)
 
-  pub number-bytes : s .mark ≡ 1 → isText (s .tag) ≡ false → isEight (s .tag) ≡ false → bytesOf (itemsOf text (s ∷ [])) ≡ s .tag ∷ 4 ∷ beBytes 4 (s .first)
-  unfolding valueOf
+  pub number-bytes : s .mark ≡ 1 → isText (s .tag) ≡ false → isEight (s .tag) ≡ false → itemsBytes (itemsOf text (s ∷ [])) ≡ s .tag ∷ 4 ∷ beBytes 4 (s .first)
+  unfolding slotValue
   number-bytes e f g = item-bytes (beBytes 4 (s .first)) e (rw (f, g)) ∙ rw (length-beBytes 4 (s .first))
 
   -- what a present slot without fault takes
@@ -93,8 +93,8 @@ module _ (text : List ℕ) (s : Slot) where
   size-number e f g = simp (eq-eqb (s .mark) 1 e, f, g)
 
   -- an absent slot has no bytes
-  pub absent-bytes : (s .mark ≡ 1 → ⊥) → bytesOf (itemsOf text (s ∷ [])) ≡ []
-  unfolding itemsOf bytesOf
+  pub absent-bytes : (s .mark ≡ 1 → ⊥) → itemsBytes (itemsOf text (s ∷ [])) ≡ []
+  unfolding itemsOf itemsBytes
   absent-bytes e = simp (ne-eqb (s .mark) 1 e)
 
   pub size-absent : (s .mark ≡ 1 → ⊥) → slotSize s ≡ 0
@@ -105,15 +105,15 @@ eight-tag : (t : ℕ) → isEight t ≡ true → t ≡ 0x4D
 unfolding isEight
 eight-tag t e = eqb-true t 0x4D e
 
-no-items : (text : List ℕ) → length (bytesOf (itemsOf text [])) ≡ 0
-unfolding itemsOf bytesOf
+no-items : (text : List ℕ) → length (itemsBytes (itemsOf text [])) ≡ 0
+unfolding itemsOf itemsBytes
 no-items text = refl
 
 -- the bytes of a slot's item are as many as its size, where it has no fault
-pub slot-length : (text : List ℕ) (s : Slot) → slotFault text s ≡ 0 → length (bytesOf (itemsOf text (s ∷ []))) ≡ slotSize s
+pub slot-length : (text : List ℕ) (s : Slot) → slotFault text s ≡ 0 → length (itemsBytes (itemsOf text (s ∷ []))) ≡ slotSize s
 slot-length text s h = go (eqb (s .mark) 1) refl (isText (s .tag)) refl (isEight (s .tag)) refl
   where
-    go : (a : Bool) → eqb (s .mark) 1 ≡ a → (b : Bool) → isText (s .tag) ≡ b → (d : Bool) → isEight (s .tag) ≡ d → length (bytesOf (itemsOf text (s ∷ []))) ≡ slotSize s
+    go : (a : Bool) → eqb (s .mark) 1 ≡ a → (b : Bool) → isText (s .tag) ≡ b → (d : Bool) → isEight (s .tag) ≡ d → length (itemsBytes (itemsOf text (s ∷ []))) ≡ slotSize s
     go true p true q d r =
         let e = eqb-true (s .mark) 1 p in
         let f = text-fits text s q (present-fits text s e h) in
@@ -133,24 +133,24 @@ slot-length text s h = go (eqb (s .mark) 1) refl (isText (s .tag)) refl (isEight
     go false p b q d r = rw (absent-bytes text s (eqb-false (s .mark) 1 p), size-absent text s (eqb-false (s .mark) 1 p))
 
 -- a slot's bytes come first
-pub items-cons : (text : List ℕ) (s : Slot) (ss : List Slot) → bytesOf (itemsOf text (s ∷ ss)) ≡ bytesOf (itemsOf text (s ∷ [])) ++ bytesOf (itemsOf text ss)
-unfolding itemsOf bytesOf
+pub items-cons : (text : List ℕ) (s : Slot) (ss : List Slot) → itemsBytes (itemsOf text (s ∷ ss)) ≡ itemsBytes (itemsOf text (s ∷ [])) ++ itemsBytes (itemsOf text ss)
+unfolding itemsOf itemsBytes
 items-cons text s ss = go (eqb (s .mark) 1)
   where
     go : (a : Bool)
-        → bytesOf (pick a (record { tag = s .tag; value = valueOf text s } ∷ itemsOf text ss) (itemsOf text ss))
-        ≡ bytesOf (pick a (record { tag = s .tag; value = valueOf text s } ∷ []) []) ++ bytesOf (itemsOf text ss)
+        → itemsBytes (pick a (record { tag = s .tag; value = slotValue text s } ∷ itemsOf text ss) (itemsOf text ss))
+        ≡ itemsBytes (pick a (record { tag = s .tag; value = slotValue text s } ∷ []) []) ++ itemsBytes (itemsOf text ss)
     go true = simp (append-nil, append-assoc)
     go false = refl
 
 -- the items of slots without fault take what their sizes say
-pub slots-length : (text : List ℕ) (ss : List Slot) → slotsFault text ss ≡ 0 → length (bytesOf (itemsOf text ss)) ≡ slotsSize ss
+pub slots-length : (text : List ℕ) (ss : List Slot) → slotsFault text ss ≡ 0 → length (itemsBytes (itemsOf text ss)) ≡ slotsSize ss
 unfolding slotsFault slotsSize
 slots-length text [] h = no-items text
 slots-length text (s ∷ ss) h =
     let n = none-graver (slotFault text s) (slotsFault text ss) h in
     rw (items-cons text s ss)
-    (length-append (bytesOf (itemsOf text (s ∷ []))) (bytesOf (itemsOf text ss)) ∙ omega (arith, slot-length text s (n .0), slots-length text ss (n .1)))
+    (length-append (itemsBytes (itemsOf text (s ∷ []))) (itemsBytes (itemsOf text ss)) ∙ omega (arith, slot-length text s (n .0), slots-length text ss (n .1)))
 
 -- the writing of slots: what is left to do from here gives the whole
 pub record SlotsLeft (whole text ws : List ℕ) (size : ℕ) (out : List ℕ) (to place next left : ℕ) : Type 0 where
@@ -159,7 +159,7 @@ pub record SlotsLeft (whole text ws : List ℕ) (size : ℕ) (out : List ℕ) (t
   pub room : to + slotsSize (slots left ws place next) ≤ size
   pub clean : slotsFault text (slots left ws place next) ≡ 0
   pub long : length out ≡ size
-  pub same : sets out to (bytesOf (itemsOf text (slots left ws place next))) ≡ whole
+  pub same : sets out to (itemsBytes (itemsOf text (slots left ws place next))) ≡ whole
 
 module _ (whole text ws : List ℕ) (size : ℕ) (out : List ℕ) (to place next left : ℕ) (h : 0 < left) (l : SlotsLeft whole text ws size out to place next left) where
   abbrev s : Slot
@@ -176,7 +176,7 @@ module _ (whole text ws : List ℕ) (size : ℕ) (out : List ℕ) (to place next
   unfolding slotsSize
   slot-room = let r = l .room in omega (arith, slots-size-turn ws left place next h)
 
-  pub slots-turn : (now : List ℕ) → length now ≡ size → now ≡ sets out to (bytesOf (itemsOf text (s ∷ []))) → SlotsLeft whole text ws size now (to + slotSize s) (place + 3) (next + 1) (left - 1)
+  pub slots-turn : (now : List ℕ) → length now ≡ size → now ≡ sets out to (itemsBytes (itemsOf text (s ∷ []))) → SlotsLeft whole text ws size now (to + slotSize s) (place + 3) (next + 1) (left - 1)
   slots-turn now k e =
       let w = l .words in let t = l .tags in
       record {
@@ -186,10 +186,10 @@ module _ (whole text ws : List ℕ) (size : ℕ) (out : List ℕ) (to place next
         clean = slot-clean .1;
         long = k;
         same =
-            rw (e, ← slot-length text s (slot-clean .0), sets-append (bytesOf (itemsOf text (s ∷ []))) out to (bytesOf (itemsOf text ss)), ← items-cons text s ss, ← slots-more left ws place next h)
+            rw (e, ← slot-length text s (slot-clean .0), sets-append (itemsBytes (itemsOf text (s ∷ []))) out to (itemsBytes (itemsOf text ss)), ← items-cons text s ss, ← slots-more left ws place next h)
             (l .same);
       }
 
 pub slots-done : (whole text ws : List ℕ) (size : ℕ) (out : List ℕ) (to place next left : ℕ) → left ≤ 0 → SlotsLeft whole text ws size out to place next left → out ≡ whole
-unfolding itemsOf bytesOf
+unfolding itemsOf itemsBytes
 slots-done whole text ws size out to place next left h l = rw (no-slots left ws place next h) at (l .same)

@@ -1,4 +1,4 @@
--- What was written is what the readers give: specs/Readers.antt has the statement.
+-- What was mapWrittenIn is what the readers give: specs/Readers.antt has the statement.
 use Prim.Native.Nat.{ℕ, zero, suc, _/_, _≤_, _<_}
 use mathlib.Core.Path.{_≡_, refl, sym, _∙_, ap}
 use mathlib.Core.List.{List, [], _∷_, _++_, map}
@@ -11,22 +11,22 @@ use borrow.Fn.Kinds.{endedOf, Dens}
 use denote.Triple.Clauses.{AtExit}
 use Rattle.plate.specs.Plate.{refusal}
 use Rattle.packet.specs.Packet.{packetAt}
-use Rattle.answer.specs.declared.Track.{Track}
-use Rattle.track_section.specs.Tracks.{Placed, recordOf, kthOf}
+use Rattle.map_answer.specs.declared.Track.{Track}
+use Rattle.map_tracks.specs.Tracks.{Placed, recordOf, kthOf}
 use Rattle.map.specs.Map.{listedIn, materialSays, mapAt, trackAt, onKth}
 use Rattle.map.specs.declared.MapAnswer.{MapAnswer}
 use Rattle.map.specs.declared.MapAnswer.the-variants as answer
 use Rattle.map.specs.declared.MapSays.{MapSays}
 use Rattle.map.specs.declared.TrackAnswer.{TrackAnswer}
-use Rattle.map.specs.Shown.{Shown, TrackShown, trackShown, shownIn}
-use Rattle.tracks.specs.Fill.{recordsAt, answerFor, lentAfter, Filled}
-use Rattle.tracks.proofs.Kept.{enough, too-few}
+use Rattle.map.specs.View.{MapView, TrackView, trackViewIn, viewIn}
+use Rattle.map_records.specs.Fill.{recordsAt, answerFor, lentAfter, Filled}
+use Rattle.map_records.proofs.Kept.{enough, too-few}
 use Rattle.packet_writer.specs.declared.WriteAnswer.the-variants.{Length}
 use Rattle.map_given.proofs.Clean.{Clean, clean}
-use Rattle.map_writer.specs.Told.{told}
+use Rattle.map_writer.specs.ViewGiven.{viewGiven}
 use Rattle.map_writer.specs.Meaning.{Codes, codesGiven, codesRead}
 use Rattle.map_writer.specs.Readers.{ReadGives, TrackGives, Says, KthIs, Readers}
-use Rattle.map_writer.specs.Write.{packetOf, writeOf, written}
+use Rattle.map_writer.specs.Write.{mapPacket, mapAnswer, mapWrittenIn}
 use Rattle.map_writer.proofs.Meaning.{codesShown, codes-told}
 use Rattle.map_writer.proofs.RoundTrip.{ReadBack, answered, round-trip}
 use Rattle.map_writer.proofs.write.Kinds as kinds
@@ -47,18 +47,18 @@ kth-is f (suc k) [] = refl
 kth-is f zero (x ∷ xs) = refl
 kth-is f (suc k) (x ∷ xs) = kth-is f k xs
 
-shown-records : (p : List ℕ) (xs : List Placed) → map (λ x. trackShown p (recordOf x)) xs ≡ map (trackShown p) (map recordOf xs)
+shown-records : (p : List ℕ) (xs : List Placed) → map (λ x. trackViewIn p (recordOf x)) xs ≡ map (trackViewIn p) (map recordOf xs)
 shown-records p [] = refl
-shown-records p (x ∷ xs) = ap (λ (l : List TrackShown). trackShown p (recordOf x) ∷ l) (shown-records p xs)
+shown-records p (x ∷ xs) = ap (λ (l : List TrackView). trackViewIn p (recordOf x) ∷ l) (shown-records p xs)
 
-codes-shown : (p : List ℕ) (rs : List Track) → map codesRead rs ≡ map codesShown (map (trackShown p) rs)
-unfolding codesRead codesShown trackShown
+codes-shown : (p : List ℕ) (rs : List Track) → map codesRead rs ≡ map codesShown (map (trackViewIn p) rs)
+unfolding codesRead codesShown trackViewIn
 codes-shown p [] = refl
 codes-shown p (r ∷ rs) = ap (λ (l : List Codes). codesRead r ∷ l) (codes-shown p rs)
 
 module _ (out : List ℕ) (at : ℕ) (text ms ts : List ℕ) (n : ℕ) (now : List ℕ) (b : ReadBack out at text ms ts n now) (c : Clean text ms ts) where
   abbrev p : List ℕ
-  p = packetOf text ms ts
+  p = mapPacket text ms ts
 
   abbrev rs : List Track
   rs = map recordOf (listedIn p)
@@ -67,19 +67,19 @@ module _ (out : List ℕ) (at : ℕ) (text ms ts : List ℕ) (n : ℕ) (now : Li
   m = record { count = length (listedIn p); material = materialSays p }
 
   count : length (listedIn p) ≡ length ts / 23
-  unfolding shownIn told
-  count = ap (λ (s : Shown). s .count) (b .shown)
+  unfolding viewIn viewGiven
+  count = ap (λ (s : MapView). s .count) (b .shown)
 
-  says : Says p (told text ms ts) (answer.Says m)
-  unfolding shownIn
-  says = (ap (λ (s : Shown). s .count) (b .shown), ap (λ (s : Shown). s .material) (b .shown))
+  says : Says p (viewGiven text ms ts) (answer.Says m)
+  unfolding viewIn
+  says = (ap (λ (s : MapView). s .count) (b .shown), ap (λ (s : MapView). s .material) (b .shown))
 
-  tracks : map (trackShown p) rs ≡ told text ms ts .tracks
-  unfolding shownIn
-  tracks = sym (shown-records p (listedIn p)) ∙ ap (λ (s : Shown). s .tracks) (b .shown)
+  tracks : map (trackViewIn p) rs ≡ viewGiven text ms ts .tracks
+  unfolding viewIn
+  tracks = sym (shown-records p (listedIn p)) ∙ ap (λ (s : MapView). s .tracks) (b .shown)
 
   codes : map codesRead rs ≡ codesGiven (length ts / 23) ts 0
-  unfolding told
+  unfolding viewGiven
   codes = codes-shown p rs ∙ ap (map codesShown) tracks ∙ codes-told text ts (length ts / 23) 0 (c .tracks)
 
   -- the packet's records are what is found there
@@ -91,7 +91,7 @@ module _ (out : List ℕ) (at : ℕ) (text ms ts : List ℕ) (n : ℕ) (now : Li
   many = length-map (listedIn p) recordOf ∙ count
 
   filled : (ys zs : List Track) (r : MapAnswer) → Filled ys now at r zs → length ts / 23 ≤ length ys
-      → Says p (told text ms ts) r × (map (trackShown p) (take (length ts / 23) zs) ≡ told text ms ts .tracks)
+      → Says p (viewGiven text ms ts) r × (map (trackViewIn p) (take (length ts / 23) zs) ≡ viewGiven text ms ts .tracks)
       × (map codesRead (take (length ts / 23) zs) ≡ codesGiven (length ts / 23) ts 0)
       × (drop (length ts / 23) zs ≡ drop (length ts / 23) ys)
   unfolding Filled lentAfter
@@ -113,7 +113,7 @@ module _ (out : List ℕ) (at : ℕ) (text ms ts : List ℕ) (n : ℕ) (now : Li
   readers =
       record {
         read = λ x g. rw (b .stands, read-gives now at x g ∙ b .read) says;
-        track = λ k y g. rw (b .stands, track-gives now at k y g ∙ b .track k, ← tracks) (kth-is (trackShown p) k (listedIn p));
+        track = λ k y g. rw (b .stands, track-gives now at k y g ∙ b .track k, ← tracks) (kth-is (trackViewIn p) k (listedIn p));
         codes = λ k y g. rw (track-gives now at k y g ∙ b .track k, ← codes) (kth-is codesRead k (listedIn p));
         fill = λ ys zs r f h. rw (b .stands) (filled ys zs r f h);
         few = fewer;
@@ -124,5 +124,5 @@ pub write-then-read : (κs : Lfts 4) (a : Dens κs kinds.ps) (n : ℕ) (s : AtEx
     → reads.Post κs a (Length n) s → Readers (s .0 .now) (a .1 .0) n (a .1 .1 .0 .now) (a .1 .1 .1 .0 .now) (a .1 .1 .1 .1 .0 .now)
 write-then-read κs a n s q =
     let out = a .0 .now in let at = a .1 .0 in let text = a .1 .1 .0 .now in let ms = a .1 .1 .1 .0 .now in let ts = a .1 .1 .1 .1 .0 .now in
-    let e : writeOf out at text ms ts ≡ Length n = sym (q .0) in
-    rw (q .1) (readers out at text ms ts n (written out at text ms ts) (round-trip out at text ms ts n e) (clean text ms ts (answered out at text ms ts n e .none)))
+    let e : mapAnswer out at text ms ts ≡ Length n = sym (q .0) in
+    rw (q .1) (readers out at text ms ts n (mapWrittenIn out at text ms ts) (round-trip out at text ms ts n e) (clean text ms ts (answered out at text ms ts n e .none)))

@@ -1,4 +1,4 @@
--- The round trip: what was written at its place is read there as what was given, and the bytes before and after it are as they were.
+-- The round trip: what was mapWrittenIn at its place is read there as what was given, and the bytes before and after it are as they were.
 use Prim.Native.Nat.{ℕ, _+_, _-_, _≤_}
 use mathlib.Core.Path.{_≡_, refl, sym, _∙_}
 use mathlib.Core.Bool.{Bool, true, false}
@@ -13,26 +13,26 @@ use Rattle.plate.specs.declared.Refusal.{Refusal}
 use Rattle.packet.specs.Packet.{headerAt}
 use Rattle.packet.specs.declared.PacketAnswer.the-variants.{Whole}
 use Rattle.packet.proofs.Laws.{whole}
-use Rattle.track_section.specs.Tracks.{kthOf}
-use Rattle.track_section.proofs.Split as split
+use Rattle.map_tracks.specs.Tracks.{kthOf}
+use Rattle.map_tracks.proofs.Split as split
 use Rattle.map.specs.Map.{materialSays, listedIn, mapAt, trackAt, onKth}
 use Rattle.map.specs.declared.MapAnswer.the-variants.{Says}
 use Rattle.map.specs.Encode.{described, encode}
-use Rattle.map.specs.Shown.{shownIn}
+use Rattle.map.specs.View.{viewIn}
 use Rattle.map.proofs.Encoded.{Fit, header-of-encoded}
 use Rattle.map.proofs.Parts.{good-encoded}
-use Rattle.map.proofs.Said.{shown-encoded}
+use Rattle.map.proofs.ViewOfParts.{view-encoded}
 use Rattle.map.proofs.Within.{read-there, track-there}
 use Rattle.packet_writer.specs.Write.{refused}
 use Rattle.packet_writer.specs.declared.WriteAnswer.the-variants.{Length, Refused}
 use Rattle.packet_writer.proofs.Laws.{framed, header-before, header-stands}
 use Rattle.map_given.specs.Given.{tracksGiven}
-use Rattle.map_writer.specs.Told.{told}
-use Rattle.map_writer.specs.Write.{partsOf, partsOfTrack, packetOf, materialLength, tracksLength, writeOf, written}
+use Rattle.map_writer.specs.ViewGiven.{viewGiven}
+use Rattle.map_writer.specs.Write.{partsGiven, partsOfTrack, mapPacket, materialLength, tracksLength, mapAnswer, mapWrittenIn}
 use Rattle.map_given.specs.Faults.{faultOf}
 use Rattle.map_given.proofs.Clean.{Clean, clean}
 use Rattle.map_writer.proofs.Packet.{material-size, material-short}
-use Rattle.map_writer.proofs.Told.{parts-told}
+use Rattle.map_writer.proofs.ViewGiven.{parts-view-given}
 use Rattle.map_writer.proofs.Judged.{parts-good}
 use contract.Lifetimes.{Lfts}
 use borrow.Fn.Kinds.{endedOf, Dens}
@@ -41,20 +41,20 @@ use Rattle.map_writer.proofs.write.Kinds as kinds
 use Rattle.map_writer.proofs.write.Reads as reads
 
 -- a packet has its header
-length-of-header : (m : List ℕ) → headerAt m 0 ≡ Whole (record { kind = 0xBC; len = length m }) → 16 ≤ length m
-length-of-header m h = whole m 0 (record { kind = 0xBC; len = length m }) h .least
+length-of-header : (m : List ℕ) → headerAt m 0 ≡ Whole (record { «packet_type» = 0xBC; len = length m }) → 16 ≤ length m
+length-of-header m h = whole m 0 (record { «packet_type» = 0xBC; len = length m }) h .least
 
 -- of a buffer, what was given, the length answered, and the buffer afterwards: the map is read back whole, and all else is as it was
 pub record ReadBack (out : List ℕ) (at : ℕ) (text ms ts : List ℕ) (n : ℕ) (now : List ℕ) : Type 0 where
   -- the packet stands at its place, and the answer is its length
-  pub long : n ≡ length (packetOf text ms ts)
-  pub stands : take n (drop at now) ≡ packetOf text ms ts
-  pub header : headerAt now at ≡ Whole (record { kind = 0xBC; len = n })
+  pub long : n ≡ length (mapPacket text ms ts)
+  pub stands : take n (drop at now) ≡ mapPacket text ms ts
+  pub header : headerAt now at ≡ Whole (record { «packet_type» = 0xBC; len = n })
   -- the reader's answer there: count, material, and the records by their number
-  pub read : mapAt now at ≡ Says (record { count = length (listedIn (packetOf text ms ts)); material = materialSays (packetOf text ms ts) })
-  pub track : (k : ℕ) → trackAt now at k ≡ onKth (kthOf k (listedIn (packetOf text ms ts)))
+  pub read : mapAt now at ≡ Says (record { count = length (listedIn (mapPacket text ms ts)); material = materialSays (mapPacket text ms ts) })
+  pub track : (k : ℕ) → trackAt now at k ≡ onKth (kthOf k (listedIn (mapPacket text ms ts)))
   -- it shows what was given: the count of tracks, the material's items, and every record in order, with the bytes at the places
-  pub shown : shownIn (packetOf text ms ts) ≡ told text ms ts
+  pub shown : viewIn (mapPacket text ms ts) ≡ viewGiven text ms ts
   pub before : take at now ≡ take at out
   pub after : drop (at + n) now ≡ drop (at + n) out
   pub lengths : length now ≡ length out
@@ -62,19 +62,19 @@ pub record ReadBack (out : List ℕ) (at : ℕ) (text ms ts : List ℕ) (n : ℕ
 -- a length was answered: there was no fault, the sections fit, and there was room
 pub record Answered (out : List ℕ) (at : ℕ) (text ms ts : List ℕ) (n : ℕ) : Type 0 where
   pub none : faultOf text ms ts ≡ 0
-  pub short : tracksLength (partsOf text ms ts) ≤ 65535
-  pub lens : n ≡ length (packetOf text ms ts)
-  pub room : length (packetOf text ms ts) ≤ length out - at
+  pub short : tracksLength (partsGiven text ms ts) ≤ 65535
+  pub lens : n ≡ length (mapPacket text ms ts)
+  pub room : length (mapPacket text ms ts) ≤ length out - at
 
 module _ (out : List ℕ) (at : ℕ) (text ms ts : List ℕ) (n : ℕ) where
-  pub answered : writeOf out at text ms ts ≡ Length n → Answered out at text ms ts n
-  unfolding writeOf
-  answered = go (eqb (faultOf text ms ts) 0) refl (ltb 65535 (materialLength (partsOf text ms ts))) (ltb 65535 (tracksLength (partsOf text ms ts))) refl (ltb (length out - at) (length (packetOf text ms ts))) refl
+  pub answered : mapAnswer out at text ms ts ≡ Length n → Answered out at text ms ts n
+  unfolding mapAnswer
+  answered = go (eqb (faultOf text ms ts) 0) refl (ltb 65535 (materialLength (partsGiven text ms ts))) (ltb 65535 (tracksLength (partsGiven text ms ts))) refl (ltb (length out - at) (length (mapPacket text ms ts))) refl
     where
-      go : (a : Bool) → eqb (faultOf text ms ts) 0 ≡ a → (b c : Bool) → ltb 65535 (tracksLength (partsOf text ms ts)) ≡ c → (d : Bool) → ltb (length out - at) (length (packetOf text ms ts)) ≡ d
-          → pick a (pick (pick b true c) (refused 25) (pick d (refused 13) (Length (length (packetOf text ms ts))))) (refused (faultOf text ms ts)) ≡ Length n → Answered out at text ms ts n
+      go : (a : Bool) → eqb (faultOf text ms ts) 0 ≡ a → (b c : Bool) → ltb 65535 (tracksLength (partsGiven text ms ts)) ≡ c → (d : Bool) → ltb (length out - at) (length (mapPacket text ms ts)) ≡ d
+          → pick a (pick (pick b true c) (refused 25) (pick d (refused 13) (Length (length (mapPacket text ms ts))))) (refused (faultOf text ms ts)) ≡ Length n → Answered out at text ms ts n
       go true p false false q false r e =
-          let l : n ≡ length (packetOf text ms ts) = cc in
+          let l : n ≡ length (mapPacket text ms ts) = cc in
           record { none = eqb-true (faultOf text ms ts) 0 p; short = omega (arith, ltb-false); lens = l; room = omega (arith, ltb-false) }
       go true p true c q d r e = absurd (let z : _≡_ {A = ℕ} 0 1 = cc in omega arith)
       go true p false true q d r e = absurd (let z : _≡_ {A = ℕ} 0 1 = cc in omega arith)
@@ -82,8 +82,8 @@ module _ (out : List ℕ) (at : ℕ) (text ms ts : List ℕ) (n : ℕ) where
       go false p b c q d r e = absurd (let z : _≡_ {A = ℕ} 0 1 = cc in omega arith)
 
   -- the packet's parts fit their length words
-  fit : Clean text ms ts → tracksLength (partsOf text ms ts) ≤ 65535 → Fit (partsOf text ms ts)
-  unfolding partsOf
+  fit : Clean text ms ts → tracksLength (partsGiven text ms ts) ≤ 65535 → Fit (partsGiven text ms ts)
+  unfolding partsGiven
   fit c h =
       let ds = map described (map (partsOfTrack text) (tracksGiven ts)) in
       record {
@@ -93,15 +93,15 @@ module _ (out : List ℕ) (at : ℕ) (text ms ts : List ℕ) (n : ℕ) where
         each = split.sized ds (omega (arith, split.length-bytes ds));
       }
 
-  pub round-trip : writeOf out at text ms ts ≡ Length n → ReadBack out at text ms ts n (written out at text ms ts)
-  unfolding written packetOf
+  pub round-trip : mapAnswer out at text ms ts ≡ Length n → ReadBack out at text ms ts n (mapWrittenIn out at text ms ts)
+  unfolding mapWrittenIn mapPacket
   round-trip e =
       let a = answered e in
       let c = clean text ms ts (a .none) in
       let f = fit c (a .short) in
-      let p = encode (partsOf text ms ts) in
-      let h = header-of-encoded (partsOf text ms ts) f in
-      let v = good-encoded (partsOf text ms ts) f (parts-good text ms ts c) in
+      let p = encode (partsGiven text ms ts) in
+      let h = header-of-encoded (partsGiven text ms ts) f in
+      let v = good-encoded (partsGiven text ms ts) f (parts-good text ms ts c) in
       let lens = a .lens in
       let room = a .room in
       let some = length-of-header p h in
@@ -113,10 +113,10 @@ module _ (out : List ℕ) (at : ℕ) (text ms ts : List ℕ) (n : ℕ) where
       record {
         long = refl;
         stands = g .stands;
-        header = header-stands out at p (omega arith) (record { kind = 0xBC; len = length p }) (λ s. header-before p s (record { kind = 0xBC; len = length p }) h);
+        header = header-stands out at p (omega arith) (record { «packet_type» = 0xBC; len = length p }) (λ s. header-before p s (record { «packet_type» = 0xBC; len = length p }) h);
         read = rw (append-assoc q p r) (rw l at (read-there q p r h v));
         track = λ k. rw (append-assoc q p r) (rw l at (track-there q p r h v k));
-        shown = shown-encoded (partsOf text ms ts) f ∙ parts-told text ms ts c;
+        shown = view-encoded (partsGiven text ms ts) f ∙ parts-view-given text ms ts c;
         before = g .before;
         after = g .after;
         lengths = g .lengths;
@@ -128,5 +128,5 @@ pub write-reads-back : (κs : Lfts 4) (a : Dens κs kinds.ps) (n : ℕ) (s : AtE
 write-reads-back κs a n s p = rw (p .1) (round-trip (a .0 .now) (a .1 .0) (a .1 .1 .0 .now) (a .1 .1 .1 .0 .now) (a .1 .1 .1 .1 .0 .now) n (sym (p .0)))
 
 pub refused-stays : (κs : Lfts 4) (a : Dens κs kinds.ps) (r : Refusal) (s : AtExit (endedOf 4 kinds.ps kinds.r) κs) → reads.Post κs a (Refused r) s → s .0 .now ≡ a .0 .now
-unfolding written
+unfolding mapWrittenIn
 refused-stays κs a r s p = p .1 ∙ rw (← p .0)

@@ -6,17 +6,17 @@ use lib.ListN.{replicate}
 use Rattle.number.specs.Number.{beBytes}
 use Rattle.text.specs.Text.{textOk}
 use Rattle.media_type.specs.MediaType.{knownType}
-use Rattle.items.specs.Items.{bytesOf}
-use Rattle.items.specs.Judge.{has}
-use Rattle.answer.specs.Answer.{allowed}
-use Rattle.track_section.specs.Tracks as tracks
+use Rattle.map_items.specs.Items.{itemsBytes}
+use Rattle.map_items.specs.Judge.{has}
+use Rattle.map_answer.specs.Answer.{allowed}
+use Rattle.map_tracks.specs.Tracks as tracks
 use Rattle.map.specs.Encode as encode
 use Rattle.map.specs.Encode.{described, padding, packetLength, sectionBytes, front, encode}
 use Rattle.packet_writer.specs.Write.{refused}
 use Rattle.packet_writer.specs.declared.WriteAnswer.the-variants.{Length}
 use Rattle.map_given.specs.Given.{slots, tracksFrom}
 use Rattle.map_given.specs.Faults.{isText, isEight, isCode, codeFits, fits, reads, slotFault, slotsFault, given, nullName, barred, ownFault, tracksFault, idFault, idsFault, faultOf}
-use Rattle.map_writer.specs.Write.{valueOf, itemsOf, partsOf, packetOf, writeOf, written}
+use Rattle.map_writer.specs.Write.{slotValue, itemsOf, partsGiven, mapPacket, mapAnswer, mapWrittenIn}
 
 -- an absent slot, a number, a code of −2, a text
 abbrev absent : List ℕ
@@ -36,47 +36,47 @@ abbrev material : ℕ → List ℕ
 material first = absent ++ number first ++ absent ++ absent ++ absent ++ absent
 
 abbrev track : ℕ → ℕ → List ℕ → List ℕ → List ℕ
-track kind id name rate = (kind ∷ id ∷ []) ++ name ++ absent ++ absent ++ absent ++ rate ++ absent ++ absent
+track mediaType id name rate = (mediaType ∷ id ∷ []) ++ name ++ absent ++ absent ++ absent ++ rate ++ absent ++ absent
 
 -- the text A1
 abbrev text : List ℕ
 text = 0x41 ∷ 0x31 ∷ []
 
 -- M: first field 0, track 1 of type 10, name A1, rate not available
-pub m : packetOf text (material 0) (track 10 1 (at 0 2) notAvailable)
+pub m : mapPacket text (material 0) (track 10 1 (at 0 2) notAvailable)
     ≡ 0 ∷ 0 ∷ 0 ∷ 0 ∷ 1 ∷ 0xBC ∷ 0 ∷ 0 ∷ 0 ∷ 0x2C ∷ 0 ∷ 0 ∷ 0 ∷ 0 ∷ 0xE1 ∷ 0xE2 ∷ 0xE0 ∷ 0xFF ∷ 0 ∷ 6 ∷ 0x41 ∷ 4 ∷ 0 ∷ 0 ∷ 0 ∷ 0 ∷ 0 ∷ 0x0F ∷ 0x8A ∷ 0xC1 ∷ 0 ∷ 0x0B ∷ 0x4C ∷ 3 ∷ 0x41 ∷ 0x31 ∷ 0 ∷ 0x50 ∷ 4 ∷ 0xFF ∷ 0xFF ∷ 0xFF ∷ 0xFE ∷ 0 ∷ []
-unfolding packetOf partsOf itemsOf valueOf slots tracksFrom isText isEight has encode encode.packetOf front sectionBytes packetLength padding described bytesOf tracks.bytesOf beBytes
+unfolding mapPacket partsGiven itemsOf slotValue slots tracksFrom isText isEight has encode encode.packetOf front sectionBytes packetLength padding described itemsBytes tracks.descriptionsBytes beBytes
 m = refl
 
 -- the edges
 pub edges :
     -- M in a buffer of just its length; one byte fewer is 13, and so is a place beyond the buffer
-    (writeOf (replicate 44 7) 0 text (material 0) (track 10 1 (at 0 2) notAvailable) ≡ Length 44)
-    × (writeOf (replicate 44 7) 1 text (material 0) (track 10 1 (at 0 2) notAvailable) ≡ refused 13)
-    × (writeOf (replicate 44 7) 18446744073709551615 text (material 0) (track 10 1 (at 0 2) notAvailable) ≡ refused 13)
+    (mapAnswer (replicate 44 7) 0 text (material 0) (track 10 1 (at 0 2) notAvailable) ≡ Length 44)
+    × (mapAnswer (replicate 44 7) 1 text (material 0) (track 10 1 (at 0 2) notAvailable) ≡ refused 13)
+    × (mapAnswer (replicate 44 7) 18446744073709551615 text (material 0) (track 10 1 (at 0 2) notAvailable) ≡ refused 13)
     -- no items and no tracks: the shortest map
-    × (writeOf (replicate 24 7) 0 [] (replicate 18 0) [] ≡ Length 24)
+    × (mapAnswer (replicate 24 7) 0 [] (replicate 18 0) [] ≡ Length 24)
     -- a field number of 33 bits, before there is any room
-    × (writeOf [] 0 text (material 4294967296) [] ≡ refused 24)
-    × (writeOf [] 0 text (material 4294967295) [] ≡ refused 13)
+    × (mapAnswer [] 0 text (material 4294967296) [] ≡ refused 24)
+    × (mapAnswer [] 0 text (material 4294967295) [] ≡ refused 13)
     -- a mark that is neither 1 nor 0, a record cut short, a part outside the text, 255 bytes of text
-    × (writeOf [] 0 text (2 ∷ replicate 17 0) [] ≡ refused 24)
-    × (writeOf [] 0 text (material 0) (10 ∷ 1 ∷ []) ≡ refused 24)
-    × (writeOf [] 0 text (at 1 2 ++ replicate 15 0) [] ≡ refused 24)
-    × (writeOf [] 0 (replicate 255 0x41) (at 0 255 ++ replicate 15 0) [] ≡ refused 24)
+    × (mapAnswer [] 0 text (2 ∷ replicate 17 0) [] ≡ refused 24)
+    × (mapAnswer [] 0 text (material 0) (10 ∷ 1 ∷ []) ≡ refused 24)
+    × (mapAnswer [] 0 text (at 1 2 ++ replicate 15 0) [] ≡ refused 24)
+    × (mapAnswer [] 0 (replicate 255 0x41) (at 0 255 ++ replicate 15 0) [] ≡ refused 24)
     -- a type and an ID that no map has, a reserved rate, −1 in 32 bits
-    × (writeOf [] 0 text (material 0) (track 5 1 (at 0 2) absent) ≡ refused 24)
-    × (writeOf [] 0 text (material 0) (track 10 64 (at 0 2) absent) ≡ refused 24)
-    × (writeOf [] 0 text (material 0) (track 10 1 (at 0 2) (number 9)) ≡ refused 24)
-    × (writeOf [] 0 text (material 0) (track 10 1 (at 0 2) (number 4294967295)) ≡ refused 24)
+    × (mapAnswer [] 0 text (material 0) (track 5 1 (at 0 2) absent) ≡ refused 24)
+    × (mapAnswer [] 0 text (material 0) (track 10 64 (at 0 2) absent) ≡ refused 24)
+    × (mapAnswer [] 0 text (material 0) (track 10 1 (at 0 2) (number 9)) ≡ refused 24)
+    × (mapAnswer [] 0 text (material 0) (track 10 1 (at 0 2) (number 4294967295)) ≡ refused 24)
     -- an ID twice is 10; with a bad text after it 11, and with a number that does not fit 24
-    × (writeOf [] 0 text (material 0) (track 10 1 (at 0 2) absent ++ track 10 1 (at 0 2) absent) ≡ refused 10)
-    × (writeOf [] 0 (0x41 ∷ 0x80 ∷ []) (material 0) (track 10 1 (at 0 1) absent ++ track 10 1 (at 0 2) absent) ≡ refused 11)
-    × (writeOf [] 0 (0x41 ∷ 0x80 ∷ []) (material 4294967296) (track 10 1 (at 0 1) absent ++ track 10 1 (at 0 2) absent) ≡ refused 24)
-    -- an auxiliary item beside a null name; beside no name it is written
-    × (writeOf [] 0 (replicate 8 1) (material 0) ((10 ∷ 1 ∷ []) ++ at 0 0 ++ at 0 8 ++ replicate 15 0) ≡ refused 24)
-    × (writeOf [] 0 (replicate 8 1) (material 0) ((10 ∷ 1 ∷ []) ++ absent ++ at 0 8 ++ replicate 15 0) ≡ refused 13)
+    × (mapAnswer [] 0 text (material 0) (track 10 1 (at 0 2) absent ++ track 10 1 (at 0 2) absent) ≡ refused 10)
+    × (mapAnswer [] 0 (0x41 ∷ 0x80 ∷ []) (material 0) (track 10 1 (at 0 1) absent ++ track 10 1 (at 0 2) absent) ≡ refused 11)
+    × (mapAnswer [] 0 (0x41 ∷ 0x80 ∷ []) (material 4294967296) (track 10 1 (at 0 1) absent ++ track 10 1 (at 0 2) absent) ≡ refused 24)
+    -- an auxiliary item beside a null name; beside no name it is mapWrittenIn
+    × (mapAnswer [] 0 (replicate 8 1) (material 0) ((10 ∷ 1 ∷ []) ++ at 0 0 ++ at 0 8 ++ replicate 15 0) ≡ refused 24)
+    × (mapAnswer [] 0 (replicate 8 1) (material 0) ((10 ∷ 1 ∷ []) ++ absent ++ at 0 8 ++ replicate 15 0) ≡ refused 13)
     -- 4D beside 4F
-    × (writeOf [] 0 (replicate 8 1) (material 0) ((10 ∷ 1 ∷ []) ++ at 0 1 ++ at 0 8 ++ absent ++ at 0 1 ++ replicate 9 0) ≡ refused 10)
-unfolding writeOf faultOf slotsFault slotFault fits reads isText isEight isCode codeFits allowed has textOk knownType tracksFault ownFault barred nullName given idsFault idFault slots tracksFrom packetOf partsOf itemsOf valueOf encode encode.packetOf front sectionBytes packetLength padding described bytesOf tracks.bytesOf beBytes
+    × (mapAnswer [] 0 (replicate 8 1) (material 0) ((10 ∷ 1 ∷ []) ++ at 0 1 ++ at 0 8 ++ absent ++ at 0 1 ++ replicate 9 0) ≡ refused 10)
+unfolding mapAnswer faultOf slotsFault slotFault fits reads isText isEight isCode codeFits allowed has textOk knownType tracksFault ownFault barred nullName given idsFault idFault slots tracksFrom mapPacket partsGiven itemsOf slotValue encode encode.packetOf front sectionBytes packetLength padding described itemsBytes tracks.descriptionsBytes beBytes
 edges = (refl, refl, refl, refl, refl, refl, refl, refl, refl, refl, refl, refl, refl, refl, refl, refl, refl, refl, refl, refl)

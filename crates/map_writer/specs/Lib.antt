@@ -1,5 +1,5 @@
 pub mod Meaning
 pub mod Readers
 pub mod Sizes
-pub mod Told
+pub mod ViewGiven
 pub mod Write

@@ -4,8 +4,8 @@ use mathlib.Core.List.{List, [], _∷_}
 use lib.Dec.{ltb, eqb}
 use lib.IntN.{ℤ, pos, negsuc}
 use Rattle.plate.specs.Choice.{pick}
-use Rattle.answer.specs.Answer.{Meaning, nothing, number, meaningOf}
-use Rattle.answer.specs.declared.Track.{Track}
+use Rattle.map_answer.specs.Answer.{Meaning, nothing, number, meaningOf}
+use Rattle.map_answer.specs.declared.Track.{Track}
 use Rattle.map_given.specs.declared.Slot.{Slot}
 use Rattle.map_given.specs.Given.{slotAt}
 

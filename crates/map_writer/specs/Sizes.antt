@@ -7,7 +7,7 @@ use Rattle.map_given.specs.Given.{Given}
 use Rattle.map_given.specs.Faults.{isText, isEight}
 use Rattle.map_writer.specs.Write.{partsOfTrack}
 use Rattle.map.specs.Encode.{described}
-use Rattle.track_section.specs.Tracks as tracks
+use Rattle.map_tracks.specs.Tracks as tracks
 use Rattle.map_given.specs.declared.Slot.{Slot}
 
 -- tag, length and value; a text has its 00, and no more than 254 bytes before it
@@ -28,7 +28,7 @@ tracksSize (t ∷ ts) = 4 + slotsSize (t .slots) + tracksSize ts
 
 -- tracks as their bytes
 unfoldable pub tracksBytes : List ℕ → List Given → List ℕ
-tracksBytes text ts = tracks.bytesOf (map described (map (partsOfTrack text) ts))
+tracksBytes text ts = tracks.descriptionsBytes (map described (map (partsOfTrack text) ts))
 
 -- 65,536 stands for every size that no section can have
 unfoldable pub capped : ℕ → ℕ

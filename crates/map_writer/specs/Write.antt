@@ -6,31 +6,31 @@ use lib.ListN.{length}
 use lib.Dec.{ltb, eqb}
 use Rattle.plate.specs.Choice.{pick}
 use Rattle.number.specs.Number.{beBytes}
-use Rattle.items.specs.Items.{Item, bytesOf}
-use Rattle.track_section.specs.Tracks as tracks
+use Rattle.map_items.specs.Items.{Item, itemsBytes}
+use Rattle.map_tracks.specs.Tracks as tracks
 use Rattle.map.specs.Encode.{TrackParts, MapParts, described, encode}
-use Rattle.packet_writer.specs.Write.{refused, ifRoom, after}
+use Rattle.packet_writer.specs.Write.{refused, ifRoom, bufferAfter}
 use Rattle.packet_writer.specs.declared.WriteAnswer.{WriteAnswer}
 use Rattle.map_given.specs.Given.{materialSlots, Given, tracksGiven}
-use Rattle.map_given.specs.Faults.{isText, isEight, partOf, faultOf}
+use Rattle.map_given.specs.Faults.{isText, isEight, slotPart, faultOf}
 use Rattle.map_given.specs.declared.Slot.{Slot}
 
 -- the bytes of a present slot's item: a text gets its 00; a number has four bytes, and so have −1 and −2
-unfoldable pub valueOf : List ℕ → Slot → List ℕ
-valueOf text s = pick (isText (s .tag)) (partOf text s ++ (0 ∷ [])) (pick (isEight (s .tag)) (partOf text s) (beBytes 4 (s .first)))
+unfoldable pub slotValue : List ℕ → Slot → List ℕ
+slotValue text s = pick (isText (s .tag)) (slotPart text s ++ (0 ∷ [])) (pick (isEight (s .tag)) (slotPart text s) (beBytes 4 (s .first)))
 
 -- absent items are left out; tags rise as the slots do
 unfoldable pub itemsOf : List ℕ → List Slot → List Item
 itemsOf text [] = []
-itemsOf text (s ∷ ss) = pick (eqb (s .mark) 1) (record { tag = s .tag; value = valueOf text s } ∷ itemsOf text ss) (itemsOf text ss)
+itemsOf text (s ∷ ss) = pick (eqb (s .mark) 1) (record { tag = s .tag; value = slotValue text s } ∷ itemsOf text ss) (itemsOf text ss)
 
 -- a track's bytes: 80 and the type, C0 and the ID
 abbrev pub partsOfTrack : List ℕ → Given → TrackParts
-partsOfTrack text t = record { kind = 0x80 + t .kind; id = 0xC0 + t .id; items = itemsOf text (t .slots) }
+partsOfTrack text t = record { typeByte = 0x80 + t .mediaType; id = 0xC0 + t .id; items = itemsOf text (t .slots) }
 
 -- reserved header bytes 0, the second payload byte FF; tracks in the given order
-unfoldable pub partsOf : List ℕ → List ℕ → List ℕ → MapParts
-partsOf text ms ts =
+unfoldable pub partsGiven : List ℕ → List ℕ → List ℕ → MapParts
+partsGiven text ms ts =
     record {
       spare = 0 ∷ 0 ∷ 0 ∷ 0 ∷ [];
       second = 0xFF;
@@ -38,27 +38,27 @@ partsOf text ms ts =
       tracks = map (partsOfTrack text) (tracksGiven ts);
     }
 
-unfoldable pub packetOf : List ℕ → List ℕ → List ℕ → List ℕ
-packetOf text ms ts = encode (partsOf text ms ts)
+unfoldable pub mapPacket : List ℕ → List ℕ → List ℕ → List ℕ
+mapPacket text ms ts = encode (partsGiven text ms ts)
 
 -- the lengths of the two sections
 abbrev pub materialLength : MapParts → ℕ
-materialLength p = length (bytesOf (p .material))
+materialLength p = length (itemsBytes (p .material))
 
 abbrev pub tracksLength : MapParts → ℕ
-tracksLength p = length (tracks.bytesOf (map described (p .tracks)))
+tracksLength p = length (tracks.descriptionsBytes (map described (p .tracks)))
 
 -- 25: a section over 65,535 bytes; no input without another fault has one (docs/DECISIONS.md, F22)
 abbrev pub tooLong : ℕ → ℕ → Bool
 tooLong m t = pick (ltb 65535 m) true (ltb 65535 t)
 
 -- 24, 11, 10; then 25; then 13; else the packet's length
-unfoldable pub writeOf : List ℕ → ℕ → List ℕ → List ℕ → List ℕ → WriteAnswer
-writeOf out at text ms ts =
+unfoldable pub mapAnswer : List ℕ → ℕ → List ℕ → List ℕ → List ℕ → WriteAnswer
+mapAnswer out at text ms ts =
     pick (eqb (faultOf text ms ts) 0)
-    (pick (tooLong (materialLength (partsOf text ms ts)) (tracksLength (partsOf text ms ts))) (refused 25) (ifRoom out at (length (packetOf text ms ts))))
+    (pick (tooLong (materialLength (partsGiven text ms ts)) (tracksLength (partsGiven text ms ts))) (refused 25) (ifRoom out at (length (mapPacket text ms ts))))
     (refused (faultOf text ms ts))
 
 -- what the buffer then holds
-unfoldable pub written : List ℕ → ℕ → List ℕ → List ℕ → List ℕ → List ℕ
-written out at text ms ts = after out at (packetOf text ms ts) (writeOf out at text ms ts)
+unfoldable pub mapWrittenIn : List ℕ → ℕ → List ℕ → List ℕ → List ℕ → List ℕ
+mapWrittenIn out at text ms ts = bufferAfter out at (mapPacket text ms ts) (mapAnswer out at text ms ts)

@@ -12,13 +12,13 @@ ghost use lib.Seq.{sets};
 ghost use Rattle.number.specs.Number.{beBytes};
 ghost use Rattle.media_type.specs.MediaType.{knownType};
 ghost use Rattle.text.specs.Text.{textOk};
-ghost use Rattle.items.specs.Items.{bytesOf};
-ghost use Rattle.track_section.specs.Tracks as tracks;
+ghost use Rattle.map_items.specs.Items.{itemsBytes};
+ghost use Rattle.map_tracks.specs.Tracks as tracks;
 ghost use Rattle.map.specs.Encode.{padding, front};
 ghost use Rattle.map_given.specs.Given.{slotAt, slots, materialSlots, trackAt, tracksFrom, tracksGiven};
 ghost use Rattle.map_writer.specs.Sizes.{slotSize, slotsSize, tracksSize, capped, tracksBytes};
 ghost use Rattle.map_given.specs.Faults.{fits, slotFault, slotsFault, tracksFault, idsFault, faultOf};
-ghost use Rattle.map_writer.specs.Write.{itemsOf, packetOf, writeOf, written};
+ghost use Rattle.map_writer.specs.Write.{itemsOf, mapPacket, mapAnswer, mapWrittenIn};
 
 // The bytes that a slot's item takes.
 fn slot_size(s: Slot) -> usize
@@ -133,7 +133,7 @@ fn put_number(out: &mut [u8], pos: usize, tag: u8, v: usize)
 // Writes the item of a slot that is present and has no fault.
 fn put_item(out: &mut [u8], pos: usize, text: &[u8], s: Slot)
     requires { ⌜ (pos + slotSize s ≤ length (now out)) × (s .mark ≡ 1) × (fits (now text) s ≡ true) ⌝ }
-    ensures { λ _. ⌜ now (out .exit) ≡ sets (now (out .entry)) pos (bytesOf (itemsOf (now (text .entry)) (s ∷ []))) ⌝ }
+    ensures { λ _. ⌜ now (out .exit) ≡ sets (now (out .entry)) pos (itemsBytes (itemsOf (now (text .entry)) (s ∷ []))) ⌝ }
 {
     if map_given::is_text(s.tag) {
         put_text(out, pos, s.tag, text, s.first as usize, s.second as usize);
@@ -149,7 +149,7 @@ fn put_item(out: &mut [u8], pos: usize, text: &[u8], s: Slot)
 // Writes the item of a slot, if it is present.
 fn put_slot(out: &mut [u8], pos: usize, text: &[u8], s: Slot)
     requires { ⌜ (pos + slotSize s ≤ length (now out)) × (slotFault (now text) s ≡ 0) ⌝ }
-    ensures { λ _. ⌜ now (out .exit) ≡ sets (now (out .entry)) pos (bytesOf (itemsOf (now (text .entry)) (s ∷ []))) ⌝ }
+    ensures { λ _. ⌜ now (out .exit) ≡ sets (now (out .entry)) pos (itemsBytes (itemsOf (now (text .entry)) (s ∷ []))) ⌝ }
 {
     if s.mark == map_given::PRESENT {
         put_item(out, pos, text, s);
@@ -159,7 +159,7 @@ fn put_slot(out: &mut [u8], pos: usize, text: &[u8], s: Slot)
 // Writes the items of n slots.
 fn put_slots(out: &mut [u8], pos: usize, text: &[u8], ws: &[u64], at: usize, tag: u8, n: usize)
     requires { ⌜ (at + 3 * n ≤ length (now ws)) × (tag + n < 256) × (pos + slotsSize (slots n (now ws) at tag) ≤ length (now out)) × (slotsFault (now text) (slots n (now ws) at tag) ≡ 0) ⌝ }
-    ensures { λ _. ⌜ now (out .exit) ≡ sets (now (out .entry)) pos (bytesOf (itemsOf (now (text .entry)) (slots n (now (ws .entry)) at tag))) ⌝ }
+    ensures { λ _. ⌜ now (out .exit) ≡ sets (now (out .entry)) pos (itemsBytes (itemsOf (now (text .entry)) (slots n (now (ws .entry)) at tag))) ⌝ }
 {
     let mut to = pos;
     let mut place = at;
@@ -223,7 +223,7 @@ fn put_front(out: &mut [u8], len: usize)
 // Writes the packet at the start of the buffer; m and t are the lengths of its sections.
 fn put_packet(out: &mut [u8], text: &[u8], material: &[u64], tracks: &[u64], m: usize, t: usize)
     requires { ⌜ (22 + m + t + padding (22 + m + t) ≤ length (now out)) × (m ≤ 65535) × (t ≤ 65535) × (m ≡ slotsSize (materialSlots (now material))) × (t ≡ tracksSize (tracksGiven (now tracks))) × (faultOf (now text) (now material) (now tracks) ≡ 0) ⌝ }
-    ensures { λ _. ⌜ now (out .exit) ≡ sets (now (out .entry)) 0 (packetOf (now (text .entry)) (now (material .entry)) (now (tracks .entry))) ⌝ }
+    ensures { λ _. ⌜ now (out .exit) ≡ sets (now (out .entry)) 0 (mapPacket (now (text .entry)) (now (material .entry)) (now (tracks .entry))) ⌝ }
 {
     let used = 22 + m + t;
     let pad = padding_of(used);
@@ -244,7 +244,7 @@ pub fn write(
     material: &[u64],
     tracks: &[u64],
 ) -> WriteAnswer
-    ensures { λ r. ⌜ (r ≡ writeOf (now (out .entry)) at (now (text .entry)) (now (material .entry)) (now (tracks .entry))) × (now (out .exit) ≡ written (now (out .entry)) at (now (text .entry)) (now (material .entry)) (now (tracks .entry))) ⌝ }
+    ensures { λ r. ⌜ (r ≡ mapAnswer (now (out .entry)) at (now (text .entry)) (now (material .entry)) (now (tracks .entry))) × (now (out .exit) ≡ mapWrittenIn (now (out .entry)) at (now (text .entry)) (now (material .entry)) (now (tracks .entry))) ⌝ }
 {
     let number = map_given::fault(text, material, tracks);
     if number != 0 {

@@ -17,7 +17,7 @@ use Rattle.media.specs.declared.MediaAnswer.the-variants.{Preamble, Refu
 abbrev pub fieldsOf : List ℕ → Media
 fieldsOf p =
     record {
-      kind = getD p 16 0;
+      «media_type» = getD p 16 0;
       track = getD p 17 0;
       field = be p 18 4;
       info = be p 22 4;

@@ -6,7 +6,7 @@ ghost use Rattle.media.specs.Media.{preambleOf, preambleAt};
 
 // Media type and track ID, bare; media field number, field information, time line field number, flags.
 pub struct Media {
-    pub kind: u8,
+    pub media_type: u8,
     pub track: u8,
     pub field: u32,
     pub info: u32,
@@ -27,7 +27,7 @@ pub fn preamble(p: &[u8], at: usize) -> MediaAnswer
     if payload < 16 {
         return MediaAnswer::Refused(plate::refuse(plate::OVERHANG, 16));
     }
-    let kind = p[16];
+    let media_type = p[16];
     let track = p[17];
     if 63 < track {
         return MediaAnswer::Refused(plate::refuse(plate::TYPE_OR_ID, at));
@@ -37,7 +37,7 @@ pub fn preamble(p: &[u8], at: usize) -> MediaAnswer
     let timeline = number::be_at(p, 26, 4);
     let flags = p[30];
     MediaAnswer::Preamble(Media {
-        kind,
+        media_type,
         track,
         field: field as u32,
         info: info as u32,

@@ -3,20 +3,20 @@ ghost use mathlib.Core.Path.{_≡_};
 ghost use Rattle.media_type.specs.MediaType.{knownType};
 
 // Whether a bare media type is one of the table's; all others are reserved.
-pub fn is_known(kind: u8) -> bool
-    ensures { λ r. ⌜ r ≡ knownType kind ⌝ }
+pub fn is_known(media_type: u8) -> bool
+    ensures { λ r. ⌜ r ≡ knownType «media_type» ⌝ }
 {
-    if 20 <= kind {
-        return kind <= 26;
+    if 20 <= media_type {
+        return media_type <= 26;
     }
-    if kind < 3 {
+    if media_type < 3 {
         return false;
     }
-    if kind <= 4 {
+    if media_type <= 4 {
         return true;
     }
-    if kind < 7 {
+    if media_type < 7 {
         return false;
     }
-    kind <= 18
+    media_type <= 18
 }

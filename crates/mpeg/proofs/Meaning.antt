@@ -15,16 +15,16 @@ use denote.Triple.Clauses.{AtExit}
 use Rattle.plate.specs.Choice.{pick}
 use Rattle.plate.specs.Plate.{refusal}
 use Rattle.text.specs.Text.{textOk}
-use Rattle.decimal.specs.declared.Amount.{Amount}
-use Rattle.decimal.specs.declared.Amount.the-variants.{Of, Malformed}
-use Rattle.parameter.specs.Table.{table, rowAt, required}
-use Rattle.parameter.specs.Parameters.{amountOf, given, numberOf, wanting, lacking, valueAt, parametersOf}
-use Rattle.parameter.specs.Meaning.{meaningOf}
-use Rattle.parameter.specs.declared.Parameters.{Parameters}
-use Rattle.parameter.proofs.Laws.{none-wanting}
-use Rattle.parameter.proofs.Meaning.{meant, value-means}
+use Rattle.mpeg_decimal.specs.declared.Amount.{Amount}
+use Rattle.mpeg_decimal.specs.declared.Amount.the-variants.{Of, Malformed}
+use Rattle.mpeg_parameter.specs.Table.{table, rowAt, required}
+use Rattle.mpeg_parameter.specs.Parameters.{amountOf, given, numberOf, wanting, lacking, valueAt, parametersOf}
+use Rattle.mpeg_parameter.specs.Meaning.{meaningOf}
+use Rattle.mpeg_parameter.specs.declared.Parameters.{Parameters}
+use Rattle.mpeg_parameter.proofs.Laws.{none-wanting}
+use Rattle.mpeg_parameter.proofs.Meaning.{meant, value-means}
 use Rattle.mpeg.specs.Lines.{Lines, done, malformed, line, linesAt}
-use Rattle.mpeg.specs.Read.{Judged, judge, taken, ended, answerOf, readOf}
+use Rattle.mpeg.specs.Read.{Judged, judgeLines, taken, ended, parametersAnswer, readOf}
 use Rattle.mpeg.specs.Meaning.{Number, none, is, listed, givenBy, givenIn, orZero, Means}
 use Rattle.mpeg.specs.declared.Verdict.{Verdict}
 use Rattle.mpeg.specs.declared.Verdict.the-variants.{Fine, Bad}
@@ -35,18 +35,18 @@ use Rattle.mpeg.proofs.read.Reads as reads
 -- lines that are fine: the first was passed over, or gave its row's slot its number, where none was; and the rest is fine from there
 module _ (slots : List ℕ) (p j : ℕ) (v : List ℕ) (rest : Lines) where
   abbrev OnWith : List ℕ → Type 0
-  OnWith next = (judge slots (line p j v rest) ≡ judge next rest) × (judge next rest .verdict ≡ Fine)
+  OnWith next = (judgeLines slots (line p j v rest) ≡ judgeLines next rest) × (judgeLines next rest .verdict ≡ Fine)
 
   abbrev Step : Type 0
   Step =
       ((14 ≤ j) × OnWith slots)
       ⊎ ((n : ℕ) × (j < 14) × (amountOf (rowAt j) v ≡ Of n) × (getD slots j 0 ≡ 0) × OnWith (set slots j (n + 1)))
 
-  step : judge slots (line p j v rest) .verdict ≡ Fine → Step
-  unfolding judge taken
+  step : judgeLines slots (line p j v rest) .verdict ≡ Fine → Step
+  unfolding judgeLines taken
   step = go (ltb j 14) (amountOf (rowAt j) v) (eqb (getD slots j 0) 0) refl refl refl
     where
-      go : (a : Bool) (m : Amount) (b : Bool) → ltb j 14 ≡ a → amountOf (rowAt j) v ≡ m → eqb (getD slots j 0) 0 ≡ b → judge slots (line p j v rest) .verdict ≡ Fine → Step
+      go : (a : Bool) (m : Amount) (b : Bool) → ltb j 14 ≡ a → amountOf (rowAt j) v ≡ m → eqb (getD slots j 0) 0 ≡ b → judgeLines slots (line p j v rest) .verdict ≡ Fine → Step
       go false m b f q r e = inl (ltb-false j 14 f, (simp f, simp f at e))
       go true Malformed b f q r e = absurd (let w = simp (f, q) at e in let z : _≡_ {A = ℕ} 0 1 = cc in omega arith)
       go true (Of n) true f q r e = inr (n, ltb-true j 14 f, q, eqb-true (getD slots j 0) 0 r, (simp (f, q, r), simp (f, q, r) at e))
@@ -65,29 +65,29 @@ module _ (k : ℕ) (h : k < 14) where
   slotIn x = getD (x .slots) k 0
 
   -- a slot that a line filled stays
-  kept : (ls : Lines) (slots : List ℕ) → length slots ≡ 14 → judge slots ls .verdict ≡ Fine → 0 < getD slots k 0 → slotIn (judge slots ls) ≡ getD slots k 0
-  unfolding judge
+  kept : (ls : Lines) (slots : List ℕ) → length slots ≡ 14 → judgeLines slots ls .verdict ≡ Fine → 0 < getD slots k 0 → slotIn (judgeLines slots ls) ≡ getD slots k 0
+  unfolding judgeLines
   kept done slots l e g = refl
   kept (malformed p) slots l e g = absurd (let z : _≡_ {A = ℕ} 0 1 = cc in omega arith)
   kept (line p j v rest) slots l e g = go (step slots p j v rest e) (kept rest)
     where
-      go : Step slots p j v rest → ((next : List ℕ) → length next ≡ 14 → judge next rest .verdict ≡ Fine → 0 < getD next k 0 → slotIn (judge next rest) ≡ getD next k 0)
-          → slotIn (judge slots (line p j v rest)) ≡ getD slots k 0
+      go : Step slots p j v rest → ((next : List ℕ) → length next ≡ 14 → judgeLines next rest .verdict ≡ Fine → 0 < getD next k 0 → slotIn (judgeLines next rest) ≡ getD next k 0)
+          → slotIn (judgeLines slots (line p j v rest)) ≡ getD slots k 0
       go (inl (m, (f, d))) on = ap slotIn f ∙ on slots l d g
       go (inr (n, m, a, z, (f, d))) on =
           let o = getD-set-other slots j k (n + 1) 0 (λ q. let w : getD slots k 0 ≡ 0 = rw q z in omega arith) in
           ap slotIn f ∙ on (set slots j (n + 1)) (length-set slots j (n + 1) ∙ l) d (rw o g) ∙ o
 
   -- and one that none filled is as the first line of its row gives it
-  first : (ls : Lines) (slots : List ℕ) → length slots ≡ 14 → judge slots ls .verdict ≡ Fine → getD slots k 0 ≡ 0 → told k (slotIn (judge slots ls)) ≡ givenBy k ls
-  unfolding judge givenBy given
+  first : (ls : Lines) (slots : List ℕ) → length slots ≡ 14 → judgeLines slots ls .verdict ≡ Fine → getD slots k 0 ≡ 0 → told k (slotIn (judgeLines slots ls)) ≡ givenBy k ls
+  unfolding judgeLines givenBy given
   first done slots l e g = rw g
   first (malformed p) slots l e g = absurd (let z : _≡_ {A = ℕ} 0 1 = cc in omega arith)
   first (line p j v rest) slots l e g = go (eqb j k) refl (step slots p j v rest e) (first rest)
     where
       go : (b : Bool) → eqb j k ≡ b → Step slots p j v rest
-          → ((next : List ℕ) → length next ≡ 14 → judge next rest .verdict ≡ Fine → getD next k 0 ≡ 0 → told k (slotIn (judge next rest)) ≡ givenBy k rest)
-          → told k (slotIn (judge slots (line p j v rest))) ≡ pick b (listed k (amountOf (rowAt k) v)) (givenBy k rest)
+          → ((next : List ℕ) → length next ≡ 14 → judgeLines next rest .verdict ≡ Fine → getD next k 0 ≡ 0 → told k (slotIn (judgeLines next rest)) ≡ givenBy k rest)
+          → told k (slotIn (judgeLines slots (line p j v rest))) ≡ pick b (listed k (amountOf (rowAt k) v)) (givenBy k rest)
       go true q (inl (m, (f, d))) on = absurd (let w = eqb-true j k q in omega arith)
       go false q (inl (m, (f, d))) on = ap (λ x. told k (slotIn x)) f ∙ on slots l d g
       go true q (inr (n, m, a, z, (f, d))) on =
@@ -123,7 +123,7 @@ module _ (k slot : ℕ) where
 -- what gives parameters has fine lines and lacks nothing
 gave : (a : Bool) (slots : List ℕ) (w : Verdict) (x : Parameters) → pick a (ended slots w) (Refused (refusal 11 0)) ≡ Given x
     → (w ≡ Fine) × (lacking slots 14 ≡ false) × (x ≡ parametersOf slots)
-unfolding answerOf
+unfolding parametersAnswer
 gave false slots w x e = absurd (let z : _≡_ {A = ℕ} 0 1 = cc in omega arith)
 gave true slots (Bad r) x e = absurd (let z : _≡_ {A = ℕ} 0 1 = cc in omega arith)
 gave true slots Fine x e = go (lacking slots 14) refl e
@@ -134,7 +134,7 @@ gave true slots Fine x e = go (lacking slots 14) refl e
     go false q e = (refl, q, cc)
 
 abbrev judged : List ℕ → Judged
-judged v = judge (replicate 14 0) (linesAt (take (length v - 1) v) 0)
+judged v = judgeLines (replicate 14 0) (linesAt (take (length v - 1) v) 0)
 
 module _ (v : List ℕ) (f : judged v .verdict ≡ Fine) (k : ℕ) (h : k < 14) where
   told-given : told k (getD (judged v .slots) k 0) ≡ givenIn v k

@@ -10,9 +10,9 @@ use lib.ListN.{length, getD, drop}
 use lib.Seq.{getD-take, getD-drop}
 use lib.Dec.{ltb, eqb}
 use Rattle.plate.specs.Choice.{pick}
-use Rattle.scan.specs.Scan.{alnum, other}
-use Rattle.scan.proofs.Laws.{run-first, run-from, past}
-use Rattle.parameter.specs.Table.{rowOf}
+use Rattle.mpeg_scan.specs.Scan.{alnum, other}
+use Rattle.mpeg_scan.proofs.Laws.{run-first, run-from, past}
+use Rattle.mpeg_parameter.specs.Table.{rowOf}
 use Rattle.mpeg.specs.Lines.{Lines, done, part, nameEnd, valueEnd, labelAt, labelThen, linesFrom, linesAt}
 use Rattle.mpeg.specs.declared.Label.{Label}
 use Rattle.mpeg.specs.declared.Label.the-variants.{Names, Broken}

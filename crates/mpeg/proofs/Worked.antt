@@ -5,14 +5,14 @@ use mathlib.Core.List.{List, [], _∷_, map}
 use lib.Ieee as Ieee
 use Rattle.number.specs.Number.{be}
 use Rattle.text.specs.Text.{textOk}
-use Rattle.scan.specs.Scan.{run, runEnd, alnum, other}
-use Rattle.decimal.specs.Decimal.{digits, numeralOf, fractionOf, wholeOf, rateOf}
-use Rattle.parameter.specs.Table.{table, rowAt, otherRow, rowFor, rowOf}
-use Rattle.parameter.specs.Parameters.{amountOf, given, wanting, numberOf, millionths, valueOf, lacking, parametersOf}
-use Rattle.parameter.specs.Meaning.{bitsOf}
+use Rattle.mpeg_scan.specs.Scan.{run, runEnd, alnum, other}
+use Rattle.mpeg_decimal.specs.Decimal.{digits, numeralOf, fractionOf, wholeOf, rateOf}
+use Rattle.mpeg_parameter.specs.Table.{table, rowAt, otherRow, rowFor, rowOf}
+use Rattle.mpeg_parameter.specs.Parameters.{amountOf, given, wanting, numberOf, millionths, valueOfRow, lacking, parametersOf}
+use Rattle.mpeg_parameter.specs.Meaning.{bitsOf}
 use Rattle.mpeg.specs.Lines.{labelAt, linesFrom, linesAt}
-use Rattle.mpeg.specs.Read.{taken, judge, answerOf, readOf}
-use Rattle.parameter.specs.declared.ParameterValue.the-variants.{Whole, Rate}
+use Rattle.mpeg.specs.Read.{taken, judgeLines, parametersAnswer, readOf}
+use Rattle.mpeg_parameter.specs.declared.ParameterValue.the-variants.{Whole, Rate}
 use Rattle.mpeg.specs.declared.MpegAnswer.the-variants.{Given}
 
 -- 0.5; 9007199254.740992, the largest; 0; 0.000001; 50000000; 0.123456
@@ -56,5 +56,5 @@ pub whole-text : readOf text
       cbpg = Whole 0;
       ar = Whole 0;
     })
-unfolding readOf textOk judge taken answerOf linesAt linesFrom labelAt lacking parametersOf valueOf numberOf given wanting amountOf table rowAt otherRow rowFor rowOf rateOf wholeOf numeralOf fractionOf digits run runEnd alnum other be
+unfolding readOf textOk judgeLines taken parametersAnswer linesAt linesFrom labelAt lacking parametersOf valueOfRow numberOf given wanting amountOf table rowAt otherRow rowFor rowOf rateOf wholeOf numeralOf fractionOf digits run runEnd alnum other be
 whole-text = refl

@@ -5,13 +5,13 @@ use mathlib.Core.List.{List}
 use lib.ListN.{length, take}
 use lib.Dec.{eqb}
 use Rattle.plate.specs.Choice.{pick, within}
-use Rattle.decimal.specs.declared.Amount.{Amount}
-use Rattle.decimal.specs.declared.Amount.the-variants.{Of, Malformed}
-use Rattle.parameter.specs.Table.{rowAt, least, most}
-use Rattle.parameter.specs.Parameters.{amountOf}
-use Rattle.parameter.specs.Meaning.{number, float, meaningOf, bitsOf}
-use Rattle.parameter.specs.declared.ParameterValue.{ParameterValue}
-use Rattle.parameter.specs.declared.Parameters.{Parameters}
+use Rattle.mpeg_decimal.specs.declared.Amount.{Amount}
+use Rattle.mpeg_decimal.specs.declared.Amount.the-variants.{Of, Malformed}
+use Rattle.mpeg_parameter.specs.Table.{rowAt, least, most}
+use Rattle.mpeg_parameter.specs.Parameters.{amountOf}
+use Rattle.mpeg_parameter.specs.Meaning.{number, float, meaningOf, bitsOf}
+use Rattle.mpeg_parameter.specs.declared.ParameterValue.{ParameterValue}
+use Rattle.mpeg_parameter.specs.declared.Parameters.{Parameters}
 use Rattle.mpeg.specs.Lines.{Lines, done, malformed, line, linesAt}
 
 -- the number that a parameter is given, if it is given one

@@ -6,10 +6,10 @@ use lib.Dec.{ltb, eqb}
 use Rattle.plate.specs.Choice.{pick}
 use Rattle.plate.specs.Plate.{refusal}
 use Rattle.text.specs.Text.{textOk}
-use Rattle.decimal.specs.declared.Amount.{Amount}
-use Rattle.decimal.specs.declared.Amount.the-variants.{Of, Malformed}
-use Rattle.parameter.specs.Table.{rowAt}
-use Rattle.parameter.specs.Parameters.{amountOf, lacking, parametersOf}
+use Rattle.mpeg_decimal.specs.declared.Amount.{Amount}
+use Rattle.mpeg_decimal.specs.declared.Amount.the-variants.{Of, Malformed}
+use Rattle.mpeg_parameter.specs.Table.{rowAt}
+use Rattle.mpeg_parameter.specs.Parameters.{amountOf, lacking, parametersOf}
 use Rattle.mpeg.specs.Lines.{Lines, done, malformed, line, linesAt}
 use Rattle.mpeg.specs.declared.Verdict.{Verdict}
 use Rattle.mpeg.specs.declared.Verdict.the-variants.{Fine, Bad}
@@ -37,21 +37,21 @@ unfoldable pub taken : List ℕ → ℕ → ℕ → List ℕ → Judged
 taken slots p k v = pick (ltb k 14) (noted slots p k (amountOf (rowAt k) v)) (fine slots)
 
 -- on from what a line came to
-abbrev pub after : (List ℕ → Judged) → List ℕ → Verdict → Judged
-after go-on slots Fine = go-on slots
-after go-on slots (Bad r) = record { verdict = Bad r; slots = slots }
+abbrev pub onFrom : (List ℕ → Judged) → List ℕ → Verdict → Judged
+onFrom go-on slots Fine = go-on slots
+onFrom go-on slots (Bad r) = record { verdict = Bad r; slots = slots }
 
-unfoldable pub judge : List ℕ → Lines → Judged
-judge slots done = fine slots
-judge slots (malformed p) = bad 26 p slots
-judge slots (line p k v rest) = after (λ next. judge next rest) (taken slots p k v .slots) (taken slots p k v .verdict)
+unfoldable pub judgeLines : List ℕ → Lines → Judged
+judgeLines slots done = fine slots
+judgeLines slots (malformed p) = bad 26 p slots
+judgeLines slots (line p k v rest) = onFrom (λ next. judgeLines next rest) (taken slots p k v .slots) (taken slots p k v .verdict)
 
 -- at the end 27, or every parameter
-unfoldable pub answerOf : List ℕ → MpegAnswer
-answerOf slots = pick (lacking slots 14) (Refused (refusal 27 0)) (Given (parametersOf slots))
+unfoldable pub parametersAnswer : List ℕ → MpegAnswer
+parametersAnswer slots = pick (lacking slots 14) (Refused (refusal 27 0)) (Given (parametersOf slots))
 
 abbrev pub ended : List ℕ → Verdict → MpegAnswer
-ended slots Fine = answerOf slots
+ended slots Fine = parametersAnswer slots
 ended slots (Bad r) = Refused r
 
 abbrev pub read : Judged → MpegAnswer
@@ -59,4 +59,4 @@ read j = ended (j .slots) (j .verdict)
 
 -- the text rule first; the closing 00 is no part of the lines
 unfoldable pub readOf : List ℕ → MpegAnswer
-readOf v = pick (textOk v) (read (judge (replicate 14 0) (linesAt (take (length v - 1) v) 0))) (Refused (refusal 11 0))
+readOf v = pick (textOk v) (read (judgeLines (replicate 14 0) (linesAt (take (length v - 1) v) 0))) (Refused (refusal 11 0))

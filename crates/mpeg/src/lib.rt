@@ -1,14 +1,14 @@
 // MPEG auxiliary text: lines of an identifier and a value, read into every parameter of Table 7.
-use decimal::Amount;
-use parameter::Parameters;
+use mpeg_decimal::Amount;
+use mpeg_parameter::Parameters;
 use plate::Refusal;
 ghost use mathlib.Core.Path.{_≡_};
 ghost use Prim.Native.Nat.{_<_, _≤_};
 ghost use lib.ListN.{length, getD};
 ghost use lib.Dec.{eqb};
-ghost use Rattle.parameter.specs.Table.{rowOf};
+ghost use Rattle.mpeg_parameter.specs.Table.{rowOf};
 ghost use Rattle.mpeg.specs.Lines.{labelAt, valueThen, linesAt};
-ghost use Rattle.mpeg.specs.Read.{taken, judge, answerOf, readOf};
+ghost use Rattle.mpeg.specs.Read.{taken, judgeLines, parametersAnswer, readOf};
 ghost use Rattle.mpeg.specs.Steps.{Agrees, Skipped};
 
 pub enum MpegAnswer {
@@ -36,7 +36,7 @@ fn row_of(v: &[u8]) -> usize
     if 5 < v.len() {
         return 14;
     }
-    parameter::row_for(number::be_at(v, 0, v.len()) as u64)
+    mpeg_parameter::row_for(number::be_at(v, 0, v.len()) as u64)
 }
 
 // A line's value goes into its row's slot; 26 comes before 10, and an unknown identifier is passed over.
@@ -46,7 +46,7 @@ fn take_line(slots: &mut [u64; 14], line: usize, k: usize, v: &[u8]) -> Verdict
     if 14 <= k {
         return Verdict::Fine;
     }
-    match parameter::amount(k, v) {
+    match mpeg_parameter::amount(k, v) {
         Amount::Malformed => Verdict::Bad(plate::refuse(plate::AUXILIARY_LINE, line)),
         Amount::Of(n) => {
             let before = slots[k];
@@ -73,7 +73,7 @@ fn label_at(s: &[u8], at: usize) -> Label
     requires { ⌜ at < length (now s) ⌝ }
     ensures { λ r. ⌜ r ≡ labelAt (now (s .entry)) at ⌝ }
 {
-    let e = scan::alnum_end(s, at);
+    let e = mpeg_scan::alnum_end(s, at);
     if at < e {
         if is_space(s, e) {
             let k = row_of(&s[at..e]);
@@ -99,7 +99,7 @@ fn skip(s: &[u8], from: usize) -> usize
                 if k < 14 {
                     return at;
                 }
-                let e = scan::until(s, v, 0x0A);
+                let e = mpeg_scan::until(s, v, 0x0A);
                 if s.len() <= e {
                     return at;
                 }
@@ -113,7 +113,7 @@ fn skip(s: &[u8], from: usize) -> usize
 // The lines from an identifier on.
 fn ident(s: &[u8], from: usize, slots: &mut [u64; 14]) -> Verdict
     requires { ⌜ from ≤ length (now s) ⌝ }
-    ensures { λ r. ⌜ Agrees (judge (now (slots .entry)) (linesAt (now (s .entry)) from)) r (now (slots .exit)) ⌝ }
+    ensures { λ r. ⌜ Agrees (judgeLines (now (slots .entry)) (linesAt (now (s .entry)) from)) r (now (slots .exit)) ⌝ }
 {
     let at = skip(s, from);
     if at < s.len() {
@@ -128,9 +128,9 @@ fn ident(s: &[u8], from: usize, slots: &mut [u64; 14]) -> Verdict
 // The lines from the value of a row on, in the line that begins at `line`.
 fn value(s: &[u8], line: usize, k: usize, at: usize, slots: &mut [u64; 14]) -> Verdict
     requires { ⌜ at ≤ length (now s) ⌝ }
-    ensures { λ r. ⌜ Agrees (judge (now (slots .entry)) (valueThen (now (s .entry)) line k at (linesAt (now (s .entry))))) r (now (slots .exit)) ⌝ }
+    ensures { λ r. ⌜ Agrees (judgeLines (now (slots .entry)) (valueThen (now (s .entry)) line k at (linesAt (now (s .entry))))) r (now (slots .exit)) ⌝ }
 {
-    let e = scan::until(s, at, 0x0A);
+    let e = mpeg_scan::until(s, at, 0x0A);
     if e < s.len() {
         return match take_line(slots, line, k, &s[at..e]) {
             Verdict::Bad(r) => Verdict::Bad(r),
@@ -142,12 +142,12 @@ fn value(s: &[u8], line: usize, k: usize, at: usize, slots: &mut [u64; 14]) -> V
 
 // What slots come to at the end: 27, or every parameter.
 fn answer(slots: &[u64; 14]) -> MpegAnswer
-    ensures { λ r. ⌜ r ≡ answerOf (now (slots .entry)) ⌝ }
+    ensures { λ r. ⌜ r ≡ parametersAnswer (now (slots .entry)) ⌝ }
 {
-    if parameter::is_lacking(slots) {
+    if mpeg_parameter::is_lacking(slots) {
         return MpegAnswer::Refused(plate::refuse(plate::NOT_GIVEN, 0));
     }
-    MpegAnswer::Given(parameter::parameters_of(slots))
+    MpegAnswer::Given(mpeg_parameter::parameters_of(slots))
 }
 
 // The parameters of a text, its closing 00 included.

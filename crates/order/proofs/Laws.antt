@@ -1,4 +1,4 @@
--- What a step tells of its piece: only EOS ends a stream, and after any other the progress is one packet further.
+-- What a step tells of its piece: only EOS ends a stream, and progressAfter any other the progress is one packet further.
 use Prim.Native.Nat.{ℕ, _+_}
 use mathlib.Core.Path.{_≡_, refl}
 use mathlib.Core.Bool.{Bool, true, false}
@@ -7,22 +7,22 @@ use lib.Dec.{eqb}
 use Rattle.plate.specs.Choice.{pick}
 use Rattle.plate.specs.Plate.{refusal}
 use Rattle.piece.specs.declared.Piece.{Piece}
-use Rattle.order.specs.Order.{misplaced, overdue, unmapped, after, ending, stepOf}
+use Rattle.order.specs.Order.{misplaced, overdue, unmapped, progressAfter, ending, stepOf}
 use Rattle.order.specs.declared.Progress.{Progress}
 use Rattle.order.specs.declared.Step.the-variants.{Next, Ended, Refused}
 
 module _ (p : Progress) (x : Piece) (at listed : ℕ) (more : Bool) where
-  pub step-next : (q : Progress) → stepOf p x at listed more ≡ Next q → (eqb (x .role) 0xFB ≡ false) × (after p (x .role) ≡ q)
+  pub step-next : (q : Progress) → stepOf p x at listed more ≡ Next q → (eqb (x .«packet_type») 0xFB ≡ false) × (progressAfter p (x .«packet_type») ≡ q)
   unfolding stepOf ending
   step-next q =
-      go (misplaced (p .due) (p .flt) (x .role)) (overdue (p .since) (x .role)) (unmapped (x .role) (x .kind) listed) (eqb (x .role) 0xFB) more (p .umf) refl
+      go (misplaced (p .«eos_due») (p .flt) (x .«packet_type»)) (overdue (p .«since_map») (x .«packet_type»)) (unmapped (x .«packet_type») (x .«media_type») listed) (eqb (x .«packet_type») 0xFB) more (p .umf) refl
     where
-      go : (a b d f m u : Bool) → eqb (x .role) 0xFB ≡ f
+      go : (a b d f m u : Bool) → eqb (x .«packet_type») 0xFB ≡ f
           → pick a (Refused (refusal 19 at))
           (pick b (Refused (refusal 20 at))
           (pick d (Refused (refusal 22 at))
-          (pick f (pick m (Refused (refusal 18 at)) (pick u (Ended (p .count + 1)) (Refused (refusal 21 at)))) (Next (after p (x .role)))))) ≡ Next q
-          → (eqb (x .role) 0xFB ≡ false) × (after p (x .role) ≡ q)
+          (pick f (pick m (Refused (refusal 18 at)) (pick u (Ended (p .count + 1)) (Refused (refusal 21 at)))) (Next (progressAfter p (x .«packet_type»)))))) ≡ Next q
+          → (eqb (x .«packet_type») 0xFB ≡ false) × (progressAfter p (x .«packet_type») ≡ q)
       go true b d f m u r e = absurd (let z : _≡_ {A = ℕ} 0 1 = cc in omega arith)
       go false true d f m u r e = absurd (let z : _≡_ {A = ℕ} 0 1 = cc in omega arith)
       go false false true f m u r e = absurd (let z : _≡_ {A = ℕ} 0 1 = cc in omega arith)
@@ -31,13 +31,13 @@ module _ (p : Progress) (x : Piece) (at listed : ℕ) (more : Bool) where
       go false false false true false false r e = absurd (let z : _≡_ {A = ℕ} 0 1 = cc in omega arith)
       go false false false false m u r e = (r, cc)
 
-  pub step-ended : (n : ℕ) → stepOf p x at listed more ≡ Ended n → eqb (x .role) 0xFB ≡ true
+  pub step-ended : (n : ℕ) → stepOf p x at listed more ≡ Ended n → eqb (x .«packet_type») 0xFB ≡ true
   unfolding stepOf
-  step-ended n = go (misplaced (p .due) (p .flt) (x .role)) (overdue (p .since) (x .role)) (unmapped (x .role) (x .kind) listed) (eqb (x .role) 0xFB) refl
+  step-ended n = go (misplaced (p .«eos_due») (p .flt) (x .«packet_type»)) (overdue (p .«since_map») (x .«packet_type»)) (unmapped (x .«packet_type») (x .«media_type») listed) (eqb (x .«packet_type») 0xFB) refl
     where
-      go : (a b d f : Bool) → eqb (x .role) 0xFB ≡ f
-          → pick a (Refused (refusal 19 at)) (pick b (Refused (refusal 20 at)) (pick d (Refused (refusal 22 at)) (pick f (ending p at more) (Next (after p (x .role)))))) ≡ Ended n
-          → eqb (x .role) 0xFB ≡ true
+      go : (a b d f : Bool) → eqb (x .«packet_type») 0xFB ≡ f
+          → pick a (Refused (refusal 19 at)) (pick b (Refused (refusal 20 at)) (pick d (Refused (refusal 22 at)) (pick f (ending p at more) (Next (progressAfter p (x .«packet_type»)))))) ≡ Ended n
+          → eqb (x .«packet_type») 0xFB ≡ true
       go true b d f r e = absurd (let z : _≡_ {A = ℕ} 0 1 = cc in omega arith)
       go false true d f r e = absurd (let z : _≡_ {A = ℕ} 0 1 = cc in omega arith)
       go false false true f r e = absurd (let z : _≡_ {A = ℕ} 0 1 = cc in omega arith)

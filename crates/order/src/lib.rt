@@ -5,14 +5,14 @@ use plate::Refusal;
 ghost use mathlib.Core.Path.{_≡_};
 ghost use Prim.Native.Nat.{_+_, _<_, _^_};
 ghost use Rattle.plate.specs.Plate.{refusal};
-ghost use Rattle.order.specs.Order.{started, misplaced, overdue, unmapped, eitherRole, falls, after, ending, stepAs, stepOf};
+ghost use Rattle.order.specs.Order.{started, misplaced, overdue, unmapped, eitherType, falls, progressAfter, ending, stepAs, stepOf};
 
 // What has passed: packets in all, packets since the latest map, whether an FLT was seen, whether EOS must follow it, whether a UMF was seen.
 pub struct Progress {
     pub count: usize,
-    pub since: usize,
+    pub since_map: usize,
     pub flt: bool,
-    pub due: bool,
+    pub eos_due: bool,
     pub umf: bool,
 }
 
@@ -35,90 +35,90 @@ pub fn start() -> Progress
 {
     Progress {
         count: 0,
-        since: 0,
+        since_map: 0,
         flt: false,
-        due: false,
+        eos_due: false,
         umf: false,
     }
 }
 
-// 19: a second FLT, or a packet that is no EOS after an FLT that did not directly follow the first map.
-fn is_misplaced(due: bool, flt: bool, role: u8) -> bool
-    ensures { λ r. ⌜ r ≡ misplaced due flt role ⌝ }
+// 19: a second FLT, or a packet that is no EOS progressAfter an FLT that did not directly follow the first map.
+fn is_misplaced(eos_due: bool, flt: bool, packet_type: u8) -> bool
+    ensures { λ r. ⌜ r ≡ misplaced «eos_due» flt «packet_type» ⌝ }
 {
-    if due {
-        return role != packet::EOS;
+    if eos_due {
+        return packet_type != packet::EOS;
     }
     if flt {
-        return role == packet::FLT;
+        return packet_type == packet::FLT;
     }
     false
 }
 
 // 20: the hundredth packet in a row without a map.
-fn is_overdue(since: usize, role: u8) -> bool
-    ensures { λ r. ⌜ r ≡ overdue since role ⌝ }
+fn is_overdue(since_map: usize, packet_type: u8) -> bool
+    ensures { λ r. ⌜ r ≡ overdue «since_map» «packet_type» ⌝ }
 {
-    if role == packet::MAP {
+    if packet_type == packet::MAP {
         return false;
     }
-    99 <= since
+    99 <= since_map
 }
 
 // 22: a media packet of known type whose ID the latest map does not list under that type; listed is the type that it does list.
-fn is_unmapped(role: u8, kind: u8, listed: u8) -> bool
-    ensures { λ r. ⌜ r ≡ unmapped role kind listed ⌝ }
+fn is_unmapped(packet_type: u8, media_type: u8, listed: u8) -> bool
+    ensures { λ r. ⌜ r ≡ unmapped «packet_type» «media_type» listed ⌝ }
 {
-    if role == packet::MEDIA {
-        if kind == listed {
+    if packet_type == packet::MEDIA {
+        if media_type == listed {
             return false;
         }
-        return media_type::is_known(kind);
+        return media_type::is_known(media_type);
     }
     false
 }
 
-fn or_role(flag: bool, role: u8, wanted: u8) -> bool
-    ensures { λ r. ⌜ r ≡ eitherRole flag role wanted ⌝ }
+fn or_type(flag: bool, packet_type: u8, wanted: u8) -> bool
+    ensures { λ r. ⌜ r ≡ eitherType flag «packet_type» wanted ⌝ }
 {
     if flag {
         return true;
     }
-    role == wanted
+    packet_type == wanted
 }
 
 // Whether EOS must follow: an FLT anywhere but directly behind the first map.
-fn falls_due(count: usize, role: u8) -> bool
-    ensures { λ r. ⌜ r ≡ falls count role ⌝ }
+fn falls_due(count: usize, packet_type: u8) -> bool
+    ensures { λ r. ⌜ r ≡ falls count «packet_type» ⌝ }
 {
-    if role == packet::FLT {
+    if packet_type == packet::FLT {
         return count != 1;
     }
     false
 }
 
-// The progress after a packet that may stand where it does.
-fn passed(p: Progress, role: u8) -> Progress
-    requires { ⌜ (p .count + 1 < 2 ^ 64) × (p .since + 1 < 2 ^ 64) ⌝ }
-    ensures { λ r. ⌜ r ≡ after p role ⌝ }
+// The progress progressAfter a packet that may stand where it does.
+fn passed(p: Progress, packet_type: u8) -> Progress
+    requires { ⌜ (p .count + 1 < 2 ^ 64) × (p .«since_map» + 1 < 2 ^ 64) ⌝ }
+    ensures { λ r. ⌜ r ≡ progressAfter p «packet_type» ⌝ }
 {
-    let flt = or_role(p.flt, role, packet::FLT);
-    let umf = or_role(p.umf, role, packet::UMF);
-    let due = falls_due(p.count, role);
-    if role == packet::MAP {
+    let flt = or_type(p.flt, packet_type, packet::FLT);
+    let umf = or_type(p.umf, packet_type, packet::UMF);
+    let eos_due = falls_due(p.count, packet_type);
+    if packet_type == packet::MAP {
         return Progress {
             count: p.count + 1,
-            since: 0,
+            since_map: 0,
             flt,
-            due,
+            eos_due,
             umf,
         };
     }
     Progress {
         count: p.count + 1,
-        since: p.since + 1,
+        since_map: p.since_map + 1,
         flt,
-        due,
+        eos_due,
         umf,
     }
 }
@@ -138,33 +138,33 @@ fn at_end(p: Progress, at: usize, more: bool) -> Step
 }
 
 // A packet of a type and, where it is media, of a media type.
-fn step_as(p: Progress, role: u8, kind: u8, at: usize, listed: u8, more: bool) -> Step
-    requires { ⌜ (p .count + 1 < 2 ^ 64) × (p .since + 1 < 2 ^ 64) ⌝ }
-    ensures { λ r. ⌜ r ≡ stepAs p role kind at listed more ⌝ }
+fn step_as(p: Progress, packet_type: u8, media_type: u8, at: usize, listed: u8, more: bool) -> Step
+    requires { ⌜ (p .count + 1 < 2 ^ 64) × (p .«since_map» + 1 < 2 ^ 64) ⌝ }
+    ensures { λ r. ⌜ r ≡ stepAs p «packet_type» «media_type» at listed more ⌝ }
 {
-    if is_misplaced(p.due, p.flt, role) {
+    if is_misplaced(p.eos_due, p.flt, packet_type) {
         return refused(plate::LOCATOR_PLACE, at);
     }
-    if is_overdue(p.since, role) {
+    if is_overdue(p.since_map, packet_type) {
         return refused(plate::MAP_OVERDUE, at);
     }
-    if is_unmapped(role, kind, listed) {
+    if is_unmapped(packet_type, media_type, listed) {
         return refused(plate::UNMAPPED, at);
     }
-    if role == packet::EOS {
+    if packet_type == packet::EOS {
         return at_end(p, at, more);
     }
-    Step::Next(passed(p, role))
+    Step::Next(passed(p, packet_type))
 }
 
 // One piece at a position, with the type that the latest map lists under its ID, and whether bytes follow it: 19, 20, 22, 18, 21.
 // Most packets are media: with their type as a constant the compiler leaves out what is only asked of others.
 pub fn take_step(p: Progress, x: Piece, at: usize, listed: u8, more: bool) -> Step
-    requires { ⌜ (p .count + 1 < 2 ^ 64) × (p .since + 1 < 2 ^ 64) ⌝ }
+    requires { ⌜ (p .count + 1 < 2 ^ 64) × (p .«since_map» + 1 < 2 ^ 64) ⌝ }
     ensures { λ r. ⌜ r ≡ stepOf p x at listed more ⌝ }
 {
-    if x.role == packet::MEDIA {
-        return step_as(p, packet::MEDIA, x.kind, at, listed, more);
+    if x.packet_type == packet::MEDIA {
+        return step_as(p, packet::MEDIA, x.media_type, at, listed, more);
     }
-    step_as(p, x.role, x.kind, at, listed, more)
+    step_as(p, x.packet_type, x.media_type, at, listed, more)
 }

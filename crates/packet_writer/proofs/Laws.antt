@@ -1,4 +1,4 @@
--- What every writer's packet is to its buffer: it stands at its place, and the bytes before and after it are as they were.
+-- What every writer's packet is to its buffer: it stands at its place, and the bytes before and bufferAfter it are as they were.
 use Prim.Native.Nat.{ℕ, _+_, _-_, _≤_}
 use mathlib.Core.Path.{_≡_, refl, sym, _∙_, ap}
 use mathlib.Core.List.{List, _++_, append-assoc, append-nil}
@@ -17,11 +17,11 @@ use Rattle.packet.specs.declared.Packet.{Packet}
 use Rattle.packet.specs.declared.PacketAnswer.the-variants.{Whole}
 use Rattle.packet.proofs.Edge.{anywhere}
 use Rattle.packet.proofs.Laws.{accepts, whole}
-use Rattle.packet_writer.specs.Write.{headerOf, over, after}
+use Rattle.packet_writer.specs.Write.{headerOf, over, bufferAfter}
 
-pub length-header : (kind len : ℕ) → length (headerOf kind len) ≡ 16
+pub length-header : (packetType len : ℕ) → length (headerOf packetType len) ≡ 16
 unfolding headerOf beBytes
-length-header kind len = refl
+length-header packetType len = refl
 
 -- room that is not lacking
 pub has-room : (size at len : ℕ) → ltb (size - at) len ≡ false → len ≤ size - at
@@ -43,7 +43,7 @@ header-before p s w e =
     let small = g .least in
     let inside = g .within in
     accepts (p ++ s) 0 (w .len) (number 0 5 (omega arith) ∙ g .leader) (number 14 2 (omega arith) ∙ g .trailer) (number 6 4 (omega arith) ∙ sym (g .lens)) (g .least) (g .fours) (omega (arith, length-append p s))
-    ∙ ap (λ (k : ℕ). Whole (record { kind = k; len = w .len })) (List·getD-append p s 0 5 (omega arith) ∙ sym (g .kinds))
+    ∙ ap (λ (k : ℕ). Whole (record { «packet_type» = k; len = w .len })) (List·getD-append p s 0 5 (omega arith) ∙ sym (g .kinds))
 
 -- bytes written over others: they stand at the place, and all else is as it was
 pub record Framed (out : List ℕ) (at : ℕ) (bytes now : List ℕ) : Type 0 where

@@ -11,7 +11,7 @@ use Rattle.packet_writer.specs.declared.WriteAnswer.the-variants.{Length
 
 -- clause 6: the leader 00 00 00 00 01, the type, the length with the header, four reserved bytes, the trailer E1 E2; most significant byte first
 unfoldable pub headerOf : ℕ → ℕ → List ℕ
-headerOf kind len = beBytes 5 0x0000000001 ++ (kind ∷ []) ++ beBytes 4 len ++ beBytes 4 0 ++ beBytes 2 0xE1E2
+headerOf packetType len = beBytes 5 0x0000000001 ++ (packetType ∷ []) ++ beBytes 4 len ++ beBytes 4 0 ++ beBytes 2 0xE1E2
 
 -- the place of a writer's refusals is 0
 abbrev pub refused : ℕ → WriteAnswer
@@ -26,6 +26,6 @@ abbrev pub over : List ℕ → ℕ → List ℕ → List ℕ
 over out at bytes = take at out ++ bytes ++ drop (at + length bytes) out
 
 -- a packet's bytes stand at the place if the answer is a length, which is theirs; a refused call changes nothing
-abbrev pub after : List ℕ → ℕ → List ℕ → WriteAnswer → List ℕ
-after out at bytes (Length n) = over out at bytes
-after out at bytes (Refused r) = out
+abbrev pub bufferAfter : List ℕ → ℕ → List ℕ → WriteAnswer → List ℕ
+bufferAfter out at bytes (Length n) = over out at bytes
+bufferAfter out at bytes (Refused r) = out

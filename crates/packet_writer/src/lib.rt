@@ -25,12 +25,12 @@ pub fn lacks_room(size: usize, at: usize, len: usize) -> bool
 }
 
 // Writes a packet header at the start of some bytes.
-pub fn put_header(out: &mut [u8], kind: u8, len: usize)
+pub fn put_header(out: &mut [u8], packet_type: u8, len: usize)
     requires { ⌜ 16 ≤ length (now out) ⌝ }
-    ensures { λ _. ⌜ now (out .exit) ≡ sets (now (out .entry)) 0 (headerOf kind len) ⌝ }
+    ensures { λ _. ⌜ now (out .exit) ≡ sets (now (out .entry)) 0 (headerOf «packet_type» len) ⌝ }
 {
     number::put_be(out, 0, 1, 5);
-    out[5] = kind;
+    out[5] = packet_type;
     number::put_be(out, 6, len, 4);
     number::put_be(out, 10, 0, 4);
     number::put_be(out, 14, 0xE1E2, 2);

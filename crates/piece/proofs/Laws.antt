@@ -16,8 +16,8 @@ use Rattle.packet.specs.Packet.{headerAt}
 use Rattle.packet.proofs.Laws.{whole}
 use Rattle.packet.specs.declared.PacketAnswer.{PacketAnswer}
 use Rattle.packet.specs.declared.PacketAnswer.the-variants as packet
-use Rattle.items.specs.declared.Verdict.{Verdict}
-use Rattle.items.specs.declared.Verdict.the-variants as verdict
+use Rattle.map_items.specs.declared.Verdict.{Verdict}
+use Rattle.map_items.specs.declared.Verdict.the-variants as verdict
 use Rattle.map.specs.Map.{mapVerdict}
 use Rattle.locator.specs.Locator.{tableOf, noTable}
 use Rattle.locator.specs.declared.LocatorAnswer.{LocatorAnswer}
@@ -85,13 +85,13 @@ pub record Told (s : List ℕ) (at : ℕ) (x : Piece) : Type 0 where
   pub cut : Cut s at (x .len)
   pub track : x .track < 64
 
-content-told : (p : List ℕ) (at role : ℕ) (x : Piece) → contentOf p at role ≡ Whole x → (x .len ≡ length p) × (x .track < 64)
+content-told : (p : List ℕ) (at packetType : ℕ) (x : Piece) → contentOf p at packetType ≡ Whole x → (x .len ≡ length p) × (x .track < 64)
 unfolding contentOf
-content-told p at role x = go (eqb role 0xBF) (eqb role 0xBC) (eqb role 0xFC)
+content-told p at packetType x = go (eqb packetType 0xBF) (eqb packetType 0xBC) (eqb packetType 0xFC)
   where
-    plain : (role : ℕ) → plainPiece role (length p) ≡ Whole x → (x .len ≡ length p) × (x .track < 64)
-    plain role e =
-        let a : record { role = role; len = length p; kind = 0; track = 0; field = 0 } ≡ x = cc in
+    plain : (packetType : ℕ) → plainPiece packetType (length p) ≡ Whole x → (x .len ≡ length p) × (x .track < 64)
+    plain packetType e =
+        let a : record { «packet_type» = packetType; len = length p; «media_type» = 0; track = 0; field = 0 } ≡ x = cc in
         (sym (ap (λ (y : Piece). y .len) a), omega (arith, ap (λ (y : Piece). y .track) a))
 
     of-map : (v : Verdict) → ofMap at (length p) v ≡ Whole x → (x .len ≡ length p) × (x .track < 64)
@@ -104,17 +104,17 @@ content-told p at role x = go (eqb role 0xBF) (eqb role 0xBC) (eqb role 0xFC)
 
     of-media : (v : MediaAnswer) → preambleOf p 0 ≡ v → ofMedia at (length p) v ≡ Whole x → (x .len ≡ length p) × (x .track < 64)
     of-media (media.Preamble m) q e =
-        let a : record { role = 0xBF; len = length p; kind = m .kind; track = m .track; field = m .field } ≡ x = cc in
+        let a : record { «packet_type» = 0xBF; len = length p; «media_type» = m .«media_type»; track = m .track; field = m .field } ≡ x = cc in
         (sym (ap (λ (y : Piece). y .len) a), omega (arith, ap (λ (y : Piece). y .track) a, small-track p m q))
     of-media (media.Refused r) q e = absurd (let z : _≡_ {A = ℕ} 0 1 = cc in omega arith)
 
     go : (a b d : Bool)
-        → pick a (ofMedia at (length p) (preambleOf p 0)) (pick b (ofMap at (length p) (mapVerdict p)) (pick d (ofLocator at (length p) (tableOf p)) (plainPiece role (length p)))) ≡ Whole x
+        → pick a (ofMedia at (length p) (preambleOf p 0)) (pick b (ofMap at (length p) (mapVerdict p)) (pick d (ofLocator at (length p) (tableOf p)) (plainPiece packetType (length p)))) ≡ Whole x
         → (x .len ≡ length p) × (x .track < 64)
     go true b d e = of-media (preambleOf p 0) refl e
     go false true d e = of-map (mapVerdict p) e
     go false false true e = of-locator (tableOf p) e
-    go false false false e = plain role e
+    go false false false e = plain packetType e
 
 pub told : (s : List ℕ) (at : ℕ) (first : Bool) (x : Piece) → pieceAt s at first ≡ Whole x → Told s at x
 unfolding pieceAt
@@ -122,12 +122,12 @@ told s at first x = go (headerAt s at) refl
   where
     go : (h : PacketAnswer) → headerAt s at ≡ h → afterHeader s at first h ≡ Whole x → Told s at x
     go (packet.Refused r) q e = absurd (let z : _≡_ {A = ℕ} 0 1 = cc in omega arith)
-    go (packet.Whole w) q e = by (opens first (w .kind)) e
+    go (packet.Whole w) q e = by (opens first (w .«packet_type»)) e
       where
-        by : (b : Bool) → pick b (contentOf (take (w .len) (drop at s)) at (w .kind)) (Refused (refusal 17 at)) ≡ Whole x → Told s at x
+        by : (b : Bool) → pick b (contentOf (take (w .len) (drop at s)) at (w .«packet_type»)) (Refused (refusal 17 at)) ≡ Whole x → Told s at x
         by true e =
             let k = cut s at w q in
-            let t = content-told (take (w .len) (drop at s)) at (w .kind) x e in
+            let t = content-told (take (w .len) (drop at s)) at (w .«packet_type») x e in
             let n : x .len ≡ w .len = t .0 ∙ k .long in
             record { cut = rw n k; track = t .1 }
         by false e = absurd (let z : _≡_ {A = ℕ} 0 1 = cc in omega arith)

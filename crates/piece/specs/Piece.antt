@@ -10,8 +10,8 @@ use Rattle.plate.specs.declared.Refusal.{Refusal}
 use Rattle.packet.specs.Packet.{headerAt}
 use Rattle.packet.specs.declared.PacketAnswer.{PacketAnswer}
 use Rattle.packet.specs.declared.PacketAnswer.the-variants as packet
-use Rattle.items.specs.declared.Verdict.{Verdict}
-use Rattle.items.specs.declared.Verdict.the-variants as verdict
+use Rattle.map_items.specs.declared.Verdict.{Verdict}
+use Rattle.map_items.specs.declared.Verdict.the-variants as verdict
 use Rattle.map.specs.Map.{mapVerdict}
 use Rattle.locator.specs.Locator.{tableOf}
 use Rattle.locator.specs.declared.LocatorAnswer.{LocatorAnswer}
@@ -28,7 +28,7 @@ moved at r = refusal (r .number) (r .place + at)
 
 -- a packet of a type and a length, of which the rules ask no more
 abbrev pub plainPiece : ℕ → ℕ → PieceAnswer
-plainPiece role len = Whole (record { role = role; len = len; kind = 0; track = 0; field = 0 })
+plainPiece packetType len = Whole (record { «packet_type» = packetType; len = len; «media_type» = 0; track = 0; field = 0 })
 
 abbrev pub ofMap : ℕ → ℕ → Verdict → PieceAnswer
 ofMap at len verdict.Accepted = plainPiece 0xBC len
@@ -39,26 +39,26 @@ ofLocator at len (locator.Table t) = plainPiece 0xFC len
 ofLocator at len (locator.Refused r) = Refused (moved at r)
 
 abbrev pub ofMedia : ℕ → ℕ → MediaAnswer → PieceAnswer
-ofMedia at len (media.Preamble m) = Whole (record { role = 0xBF; len = len; kind = m .kind; track = m .track; field = m .field })
+ofMedia at len (media.Preamble m) = Whole (record { «packet_type» = 0xBF; len = len; «media_type» = m .«media_type»; track = m .track; field = m .field })
 ofMedia at len (media.Refused r) = Refused (moved at r)
 
 -- maps whole, the FLT's step, count and room, the media preamble; EOS, UMF and reserved packets are not opened
 unfoldable pub contentOf : List ℕ → ℕ → ℕ → PieceAnswer
-contentOf p at role =
-    pick (eqb role 0xBF) (ofMedia at (length p) (preambleOf p 0))
-    (pick (eqb role 0xBC) (ofMap at (length p) (mapVerdict p))
-    (pick (eqb role 0xFC) (ofLocator at (length p) (tableOf p))
-    (plainPiece role (length p))))
+contentOf p at packetType =
+    pick (eqb packetType 0xBF) (ofMedia at (length p) (preambleOf p 0))
+    (pick (eqb packetType 0xBC) (ofMap at (length p) (mapVerdict p))
+    (pick (eqb packetType 0xFC) (ofLocator at (length p) (tableOf p))
+    (plainPiece packetType (length p))))
 
 -- 17: the first packet is a map
 unfoldable pub opens : Bool → ℕ → Bool
-opens true role = eqb role 0xBC
-opens false role = true
+opens true packetType = eqb packetType 0xBC
+opens false packetType = true
 
 -- header faults, 17, content faults
 abbrev pub afterHeader : List ℕ → ℕ → Bool → PacketAnswer → PieceAnswer
 afterHeader s at first (packet.Refused r) = Refused r
-afterHeader s at first (packet.Whole w) = pick (opens first (w .kind)) (contentOf (take (w .len) (drop at s)) at (w .kind)) (Refused (refusal 17 at))
+afterHeader s at first (packet.Whole w) = pick (opens first (w .«packet_type»)) (contentOf (take (w .len) (drop at s)) at (w .«packet_type»)) (Refused (refusal 17 at))
 
 unfoldable pub pieceAt : List ℕ → ℕ → Bool → PieceAnswer
 pieceAt s at first = afterHeader s at first (headerAt s at)

@@ -1,5 +1,5 @@
 // A piece of a stream: what one packet is to the rules of streams, or its first fault: of its header, 17, of its content.
-use items::Verdict;
+use map_items::Verdict;
 use locator::LocatorAnswer;
 use media::MediaAnswer;
 use packet::PacketAnswer;
@@ -14,9 +14,9 @@ ghost use Rattle.piece.specs.Piece.{moved, opens, contentOf, pieceAt};
 
 // A packet's type and length, and of a media packet its media type, track ID and field number; of any other, zeros.
 pub struct Piece {
-    pub role: u8,
+    pub packet_type: u8,
     pub len: usize,
-    pub kind: u8,
+    pub media_type: u8,
     pub track: u8,
     pub field: u32,
 }
@@ -35,13 +35,13 @@ fn refused_at(r: Refusal, at: usize) -> PieceAnswer
 }
 
 // A packet of which the rules of streams ask its type and length alone.
-fn plain(role: u8, len: usize) -> PieceAnswer
-    ensures { λ x. ⌜ x ≡ PieceAnswer.Whole (record { role = role; len = len; kind = 0; track = 0; field = 0 }) ⌝ }
+fn plain(packet_type: u8, len: usize) -> PieceAnswer
+    ensures { λ x. ⌜ x ≡ PieceAnswer.Whole (record { «packet_type» = «packet_type»; len = len; «media_type» = 0; track = 0; field = 0 }) ⌝ }
 {
     PieceAnswer::Whole(Piece {
-        role,
+        packet_type,
         len,
-        kind: 0,
+        media_type: 0,
         track: 0,
         field: 0,
     })
@@ -74,9 +74,9 @@ fn media_content(p: &[u8], at: usize) -> PieceAnswer
     match media::preamble(p, 0) {
         MediaAnswer::Refused(r) => refused_at(r, at),
         MediaAnswer::Preamble(m) => PieceAnswer::Whole(Piece {
-            role: packet::MEDIA,
+            packet_type: packet::MEDIA,
             len: p.len(),
-            kind: m.kind,
+            media_type: m.media_type,
             track: m.track,
             field: m.field,
         }),
@@ -84,39 +84,39 @@ fn media_content(p: &[u8], at: usize) -> PieceAnswer
 }
 
 // The content of a whole packet that stands at a position.
-fn content(p: &[u8], at: usize, role: u8) -> PieceAnswer
+fn content(p: &[u8], at: usize, packet_type: u8) -> PieceAnswer
     requires { ⌜ (16 ≤ length (now p)) × (at + length (now p) < 2 ^ 64) ⌝ }
-    ensures { λ x. ⌜ x ≡ contentOf (now (p .entry)) at role ⌝ }
+    ensures { λ x. ⌜ x ≡ contentOf (now (p .entry)) at «packet_type» ⌝ }
 {
-    if role == packet::MEDIA {
+    if packet_type == packet::MEDIA {
         return media_content(p, at);
     }
-    if role == packet::MAP {
+    if packet_type == packet::MAP {
         return map_content(p, at);
     }
-    if role == packet::FLT {
+    if packet_type == packet::FLT {
         return locator_content(p, at);
     }
-    plain(role, p.len())
+    plain(packet_type, p.len())
 }
 
 // Whether a packet of a type may stand where it does: the first is a map.
-fn may_open(first: bool, role: u8) -> bool
-    ensures { λ r. ⌜ r ≡ opens first role ⌝ }
+fn may_open(first: bool, packet_type: u8) -> bool
+    ensures { λ r. ⌜ r ≡ opens first «packet_type» ⌝ }
 {
     if first {
-        return role == packet::MAP;
+        return packet_type == packet::MAP;
     }
     true
 }
 
 // The first packet of a stream: 17, content faults.
-fn opening(p: &[u8], at: usize, role: u8) -> PieceAnswer
+fn opening(p: &[u8], at: usize, packet_type: u8) -> PieceAnswer
     requires { ⌜ (16 ≤ length (now p)) × (at + length (now p) < 2 ^ 64) ⌝ }
-    ensures { λ x. ⌜ x ≡ pick (opens true role) (contentOf (now (p .entry)) at role) (PieceAnswer.Refused (refusal 17 at)) ⌝ }
+    ensures { λ x. ⌜ x ≡ pick (opens true «packet_type») (contentOf (now (p .entry)) at «packet_type») (PieceAnswer.Refused (refusal 17 at)) ⌝ }
 {
-    if may_open(true, role) {
-        return content(p, at, role);
+    if may_open(true, packet_type) {
+        return content(p, at, packet_type);
     }
     PieceAnswer::Refused(plate::refuse(plate::NO_MAP_FIRST, at))
 }
@@ -128,15 +128,15 @@ pub fn piece_at(s: &[u8], at: usize, first: bool) -> PieceAnswer
     match packet::header(s, at) {
         PacketAnswer::Refused(r) => PieceAnswer::Refused(r),
         PacketAnswer::Whole(w) => {
-            let role = w.kind;
+            let packet_type = w.packet_type;
             let e = at + w.len;
             if first {
-                return opening(&s[at..e], at, role);
+                return opening(&s[at..e], at, packet_type);
             }
-            if role == packet::MEDIA {
+            if packet_type == packet::MEDIA {
                 return media_content(&s[at..e], at);
             }
-            content(&s[at..e], at, role)
+            content(&s[at..e], at, packet_type)
         }
     }
 }

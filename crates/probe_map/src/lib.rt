@@ -1,9 +1,9 @@
 // The probe's answer of the map reader with n lent records, and the records after it.
-use answer::Code;
-use answer::Track;
-use answer::Value;
-use items::Part;
-use lent_records::After;
+use map_answer::Code;
+use map_answer::Track;
+use map_answer::Value;
+use map_items::Part;
+use probe_records::After;
 use map::MapAnswer;
 use map::TrackAnswer;
 ghost use Prim.Native.Nat.{_≤_};
@@ -12,7 +12,7 @@ ghost use Prim.Native.Nat.{_≤_};
 fn start() -> Track {
     Track {
         id: 255,
-        kind: 255,
+        media_type: 255,
         rate: Code::Is(255),
         lines: Code::Is(255),
         fields: Code::Is(255),
@@ -78,7 +78,7 @@ fn same(a: Track, b: Track) -> bool {
     let v = a.version;
     let w = b.version;
     a.id == b.id
-        && a.kind == b.kind
+        && a.media_type == b.media_type
         && value_number(v) == value_number(w)
         && same_codes(a, b)
         && same_parts(a, b)
@@ -135,7 +135,7 @@ pub fn map(out: &mut [u8], s: &[u8], at: usize, n: usize) -> usize {
     if 80 < n {
         return 0;
     }
-    let after = lent_records::fill(start(), n, s, at);
+    let after = probe_records::fill(start(), n, s, at);
     let a = after.answer;
     let k = words(out, a);
     records(out, k, s, at, after, n)

@@ -7,7 +7,7 @@ use packet::PacketAnswer;
 
 fn packet_words(out: &mut [u8], at: usize, a: PacketAnswer) -> usize {
     match a {
-        PacketAnswer::Whole(p) => probe_line::two(out, at, b"packet", p.kind as usize, p.len),
+        PacketAnswer::Whole(p) => probe_line::two(out, at, b"packet", p.packet_type as usize, p.len),
         PacketAnswer::Refused(r) => probe_line::refused(out, at, r),
     }
 }
@@ -17,11 +17,11 @@ pub fn header(out: &mut [u8], s: &[u8], at: usize) -> usize {
     packet_words(out, 0, a)
 }
 
-pub fn of_type(out: &mut [u8], s: &[u8], at: usize, kind: usize) -> usize {
-    if 255 < kind {
+pub fn of_type(out: &mut [u8], s: &[u8], at: usize, packet_type: usize) -> usize {
+    if 255 < packet_type {
         return 0;
     }
-    let a = packet::of_type(s, at, kind as u8);
+    let a = packet::of_type(s, at, packet_type as u8);
     packet_words(out, 0, a)
 }
 
@@ -41,7 +41,7 @@ pub fn position(out: &mut [u8], s: &[u8], at: usize, distance: u64) -> usize {
 }
 
 fn media_front(out: &mut [u8], m: Media) -> usize {
-    let k = probe_line::two(out, 0, b"media", m.kind as usize, m.track as usize);
+    let k = probe_line::two(out, 0, b"media", m.media_type as usize, m.track as usize);
     probe_line::figure(out, k, m.field as u64)
 }
 

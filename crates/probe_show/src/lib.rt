@@ -1,9 +1,9 @@
 // The probe's words for what a map says: numbers, codes, places, the material and a track's record.
-use answer::Code;
-use answer::Material;
-use answer::Track;
-use answer::Value;
-use items::Part;
+use map_answer::Code;
+use map_answer::Material;
+use map_answer::Track;
+use map_answer::Value;
+use map_items::Part;
 
 fn value(out: &mut [u8], at: usize, v: Value) -> usize {
     match v {
@@ -49,7 +49,7 @@ pub fn says(out: &mut [u8], count: usize, m: Material) -> usize {
 }
 
 fn codes(out: &mut [u8], at: usize, t: Track) -> usize {
-    let k = probe_line::two(out, at, b" record", t.id as usize, t.kind as usize);
+    let k = probe_line::two(out, at, b" record", t.id as usize, t.media_type as usize);
     let c = t.rate;
     let k = code(out, k, c);
     let c = t.lines;

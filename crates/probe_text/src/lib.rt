@@ -1,9 +1,9 @@
 // The probe's answers of a track's texts: its name, by one map or two, and the parameters of an auxiliary text.
 use mpeg::MpegAnswer;
-use name::NameAnswer;
-use name::TwoAnswer;
-use parameter::ParameterValue;
-use parameter::Parameters;
+use map_name::NameAnswer;
+use map_name::TwoAnswer;
+use mpeg_parameter::ParameterValue;
+use mpeg_parameter::Parameters;
 use plate::Refusal;
 
 // Of 1 to 6 the place is the packet's first byte in the bytes that were sent, of others it counts from there.
@@ -16,7 +16,7 @@ fn placed(r: Refusal, at: usize) -> Refusal {
 
 // The library takes the map at the start of what it is lent: that is the bytes from the position on.
 fn name_words(out: &mut [u8], p: &[u8], id: usize, at: usize) -> usize {
-    match name::name_place(p, id) {
+    match map_name::name_place(p, id) {
         NameAnswer::At(q, m) => probe_line::two(out, 0, b"name", q, m),
         NameAnswer::Refused(r) => probe_line::refused(out, 0, placed(r, at)),
     }
@@ -24,7 +24,7 @@ fn name_words(out: &mut [u8], p: &[u8], id: usize, at: usize) -> usize {
 
 fn name_in(out: &mut [u8], p: &[u8], id: usize, at: usize) -> usize {
     let k = name_words(out, p, id, at);
-    probe_line::hex(out, k, name::name(p, id))
+    probe_line::hex(out, k, map_name::name(p, id))
 }
 
 pub fn name(out: &mut [u8], s: &[u8], at: usize, id: usize) -> usize {
@@ -35,7 +35,7 @@ pub fn name(out: &mut [u8], s: &[u8], at: usize, id: usize) -> usize {
 }
 
 fn two_words(out: &mut [u8], opening: &[u8], closing: &[u8], id: usize) -> usize {
-    match name::name_place_of_two(opening, closing, id) {
+    match map_name::name_place_of_two(opening, closing, id) {
         TwoAnswer::Opening(q, m) => probe_line::two(out, 0, b"opening", q, m),
         TwoAnswer::Closing(q, m) => probe_line::two(out, 0, b"closing", q, m),
         TwoAnswer::Refused(r) => probe_line::refused(out, 0, r),
@@ -44,7 +44,7 @@ fn two_words(out: &mut [u8], opening: &[u8], closing: &[u8], id: usize) -> usize
 
 pub fn name_of_two<'a>(out: &mut [u8], opening: &'a [u8], closing: &'a [u8], id: usize) -> usize {
     let k = two_words(out, opening, closing, id);
-    probe_line::hex(out, k, name::name_of_two(opening, closing, id))
+    probe_line::hex(out, k, map_name::name_of_two(opening, closing, id))
 }
 
 fn value(out: &mut [u8], at: usize, v: ParameterValue) -> usize {

@@ -1,7 +1,7 @@
 // The bench readings that run: streams of 99 and 100 packets without a map, rates of auxiliary texts, and streams that a multiplexer made.
-use answer::Code;
-use answer::Material;
-use answer::Value;
+use map_answer::Code;
+use map_answer::Material;
+use map_answer::Value;
 use console::figure;
 use console::load;
 use console::refused;
@@ -9,7 +9,7 @@ use console::say;
 use map::MapAnswer;
 use map::TrackAnswer;
 use mpeg::MpegAnswer;
-use parameter::ParameterValue;
+use mpeg_parameter::ParameterValue;
 use stream::CheckAnswer;
 use stream::SeekAnswer;
 
@@ -87,7 +87,7 @@ fn show_code(name: &[u8], c: Code) {
 // The name of a listed track, as the part of the map that holds it.
 fn show_name(s: &[u8], id: usize) {
     say(b", name ");
-    say(name::name(s, id));
+    say(map_name::name(s, id));
 }
 
 fn show_track(s: &[u8], k: usize) {
@@ -99,7 +99,7 @@ fn show_track(s: &[u8], k: usize) {
             say(b"  track");
             figure(t.id as u64);
             say(b", type");
-            figure(t.kind as u64);
+            figure(t.media_type as u64);
             show_code(b", rate", rate);
             show_code(b", lines", lines);
             show_code(b", fields", fields);

@@ -13,11 +13,11 @@ use Rattle.piece.specs.Piece.{pieceAt}
 use Rattle.piece.specs.declared.Piece.{Piece}
 use Rattle.piece.specs.declared.PieceAnswer.the-variants as piece
 use Rattle.piece.proofs.Laws.{told}
-use Rattle.order.specs.Order.{started, after, stepOf}
+use Rattle.order.specs.Order.{started, progressAfter, stepOf}
 use Rattle.order.specs.declared.Progress.{Progress}
 use Rattle.order.specs.declared.Step.the-variants as step
 use Rattle.order.proofs.Laws.{step-next, step-ended}
-use Rattle.stream.specs.Stream.{Packets, runsOut, closed, none, typesAfter, onPiece, packetsFrom, packets, ranOut, onStep, judge, checkOf, carriesPiece, firstOf, orFirst, firstHere, collect, runOf, orNotThere, ifChecked, seekOf}
+use Rattle.stream.specs.Stream.{Packets, runsOut, closed, none, typesAfter, onPiece, packetsFrom, packets, ranOut, onStep, judgePackets, checkOf, carriesPiece, firstOf, orFirst, firstHere, collect, runOf, orNotThere, ifChecked, seekOf}
 use Rattle.stream.specs.declared.Spot.{Spot}
 use Rattle.stream.specs.declared.Spot.the-variants as spot
 use Rattle.stream.specs.declared.CheckAnswer.{CheckAnswer}
@@ -27,9 +27,9 @@ use Rattle.stream.specs.declared.Run.{Run}
 use Rattle.stream.specs.declared.Run.the-variants as run
 use Rattle.stream.specs.declared.Pass.{Pass}
 
--- what the packets from an offset on come to, after some progress and a first carrier
+-- what the packets from an offset on come to, progressAfter some progress and a first carrier
 abbrev comesTo : List ℕ → ℕ → ℕ → Progress → Spot → Packets → Run
-comesTo s track field p found ps = collect (judge (length s) p (ps .list) (ps .end)) (orFirst found (firstOf track field (ps .list)))
+comesTo s track field p found ps = collect (judgePackets (length s) p (ps .list) (ps .end)) (orFirst found (firstOf track field (ps .list)))
 
 pub record Left (s : List ℕ) (track field at : ℕ) (p : Progress) (types : List ℕ) (found : Spot) : Type 0 where
   pub fuel : ℕ
@@ -64,7 +64,7 @@ first-alone spot.Nothing = refl
 
 module _ (s : List ℕ) (track field at : ℕ) (p : Progress) (types : List ℕ) (found : Spot) (l : Left s track field at p types found) where
   pub on-out : length s ≤ at → run.Refused (ranOut (p .count) (length s)) ≡ runOf s track field
-  unfolding judge
+  unfolding judgePackets
   on-out h = sym (l .same ∙ rw (out s (l .fuel) (eqb (p .count) 0) types at h))
 
   module _ (h : at < length s) where
@@ -73,17 +73,17 @@ module _ (s : List ℕ) (track field at : ℕ) (p : Progress) (types : List ℕ)
     now-turn = l .same ∙ rw (turn s (l .fuel) (eqb (p .count) 0) types at (omega (arith, l .enough)) h)
 
     pub on-refused : (r : Refusal) → pieceAt s at (eqb (p .count) 0) ≡ piece.Refused r → run.Refused r ≡ runOf s track field
-    unfolding judge
+    unfolding judgePackets
     on-refused r e = sym (now-turn ∙ rw e)
 
     module _ (x : Piece) (e : pieceAt s at (eqb (p .count) 0) ≡ piece.Whole x) (now-types : List ℕ) (t : now-types ≡ typesAfter s at x types) where
       abbrev rest : Packets
-      rest = pick (eqb (x .role) 0xFB) (none closed) (packetsFrom s (l .fuel - 1) false now-types (at + x .len))
+      rest = pick (eqb (x .«packet_type») 0xFB) (none closed) (packetsFrom s (l .fuel - 1) false now-types (at + x .len))
 
       turned : runOf s track field
-          ≡ collect (onStep (λ q. judge (length s) q (rest .list) (rest .end)) (stepOf p x at (getD now-types (x .track) 0) (ltb (at + x .len) (length s))))
+          ≡ collect (onStep (λ q. judgePackets (length s) q (rest .list) (rest .end)) (stepOf p x at (getD now-types (x .track) 0) (ltb (at + x .len) (length s))))
           (orFirst found (pick (carriesPiece track field x) (spot.At at) (firstOf track field (rest .list))))
-      unfolding judge firstOf
+      unfolding judgePackets firstOf
       turned = now-turn ∙ rw (e, ← t)
 
       pub on-step-refused : (r : Refusal) → stepOf p x at (getD now-types (x .track) 0) (ltb (at + x .len) (length s)) ≡ step.Refused r → run.Refused r ≡ runOf s track field
@@ -96,7 +96,7 @@ module _ (s : List ℕ) (track field at : ℕ) (p : Progress) (types : List ℕ)
 
       pub on-next : (q : Progress) → stepOf p x at (getD now-types (x .track) 0) (ltb (at + x .len) (length s)) ≡ step.Next q
           → Left s track field (at + x .len) q now-types (orFirst found (firstHere track field x at))
-      unfolding after
+      unfolding progressAfter
       on-next q f =
           let n = step-next p x at (getD now-types (x .track) 0) (ltb (at + x .len) (length s)) q f in
           let w = told s at (eqb (p .count) 0) x e in
@@ -109,13 +109,13 @@ module _ (s : List ℕ) (track field at : ℕ) (p : Progress) (types : List ℕ)
 
 -- a step adds one packet, and one since the latest map at most
 pub next-bounds : (p : Progress) (x : Piece) (at listed : ℕ) (more : Bool) (q : Progress) → stepOf p x at listed more ≡ step.Next q
-    → (q .count ≡ p .count + 1) × (q .since ≤ p .since + 1)
-unfolding after
+    → (q .count ≡ p .count + 1) × (q .«since_map» ≤ p .«since_map» + 1)
+unfolding progressAfter
 next-bounds p x at listed more q f =
     let n = step-next p x at listed more q f .1 in
-    (sym (ap (λ (r : Progress). r .count) n), rw (ap (λ (r : Progress). r .since) (sym n)) (go (eqb (x .role) 0xBC)))
+    (sym (ap (λ (r : Progress). r .count) n), rw (ap (λ (r : Progress). r .«since_map») (sym n)) (go (eqb (x .«packet_type») 0xBC)))
   where
-    go : (b : Bool) → pick b 0 (p .since + 1) ≤ p .since + 1
+    go : (b : Bool) → pick b 0 (p .«since_map» + 1) ≤ p .«since_map» + 1
     go true = omega arith
     go false = omega arith
 

@@ -45,19 +45,19 @@ pub record Packets : Type 0 where
 abbrev pub none : End → Packets
 none e = record { list = []; end = e }
 
-abbrev pub before : Placed → Packets → Packets
-before x ps = record { list = x ∷ ps .list; end = ps .end }
+abbrev pub packetInFront : Placed → Packets → Packets
+packetInFront x ps = record { list = x ∷ ps .list; end = ps .end }
 
 -- the latest map's types, once a packet has passed
 abbrev pub typesAfter : List ℕ → ℕ → Piece → List ℕ → List ℕ
-typesAfter s at x types = pick (eqb (x .role) 0xBC) (typesIn (take (x .len) (drop at s))) types
+typesAfter s at x types = pick (eqb (x .«packet_type») 0xBC) (typesIn (take (x .len) (drop at s))) types
 
 -- a packet, and what follows it: nothing where it is EOS
 abbrev pub onPiece : List ℕ → ℕ → List ℕ → (List ℕ → ℕ → Packets) → PieceAnswer → Packets
 onPiece s at types next (piece.Refused r) = none (stops r)
 onPiece s at types next (piece.Whole x) =
-    before (record { at = at; piece = x; types = typesAfter s at x types })
-    (pick (eqb (x .role) 0xFB) (none closed) (next (typesAfter s at x types) (at + x .len)))
+    packetInFront (record { at = at; piece = x; types = typesAfter s at x types })
+    (pick (eqb (x .«packet_type») 0xFB) (none closed) (next (typesAfter s at x types) (at + x .len)))
 
 -- the packets from an offset on, the first of the stream or not; f is more than the packets that can follow
 unfoldable pub packetsFrom : List ℕ → ℕ → Bool → List ℕ → ℕ → Packets
@@ -89,17 +89,17 @@ abbrev pub stepAt : ℕ → Progress → Placed → Step
 stepAt n p x = stepOf p (x .piece) (x .at) (getD (x .types) (x .piece .track) 0) (ltb (x .at + x .piece .len) n)
 
 -- the first fault, in walk order, or the number of packets
-unfoldable pub judge : ℕ → Progress → List Placed → End → CheckAnswer
-judge n p [] e = atEnd n p e
-judge n p (x ∷ xs) e = onStep (λ q. judge n q xs e) (stepAt n p x)
+unfoldable pub judgePackets : ℕ → Progress → List Placed → End → CheckAnswer
+judgePackets n p [] e = atEnd n p e
+judgePackets n p (x ∷ xs) e = onStep (λ q. judgePackets n q xs e) (stepAt n p x)
 
 unfoldable pub checkOf : List ℕ → CheckAnswer
-checkOf s = judge (length s) started (packets s .list) (packets s .end)
+checkOf s = judgePackets (length s) started (packets s .list) (packets s .end)
 
 -- a packet carries field F of track T if its type is known, its ID is T and its field number is F
 unfoldable pub carriesPiece : ℕ → ℕ → Piece → Bool
 carriesPiece track field x =
-    pick (eqb (x .role) 0xBF) (pick (eqb (x .track) track) (pick (eqb (x .field) field) (knownType (x .kind)) false) false) false
+    pick (eqb (x .«packet_type») 0xBF) (pick (eqb (x .track) track) (pick (eqb (x .field) field) (knownType (x .«media_type»)) false) false) false
 
 abbrev pub carries : ℕ → ℕ → Placed → Bool
 carries track field x = carriesPiece track field (x .piece)

@@ -4,7 +4,7 @@ use order::Step;
 use piece::Piece;
 use piece::PieceAnswer;
 use plate::Refusal;
-use track_section::Types;
+use map_tracks::Types;
 ghost use mathlib.Core.Path.{_≡_};
 ghost use mathlib.Core.Bool.{true, false};
 ghost use Rattle.plate.specs.Plate.{refusal};
@@ -42,8 +42,8 @@ pub enum Run {
 fn carries(x: Piece, track: u64, field: u64) -> bool
     ensures { λ r. ⌜ r ≡ carriesPiece track field x ⌝ }
 {
-    let kind = x.kind;
-    if x.role != packet::MEDIA {
+    let media_type = x.media_type;
+    if x.packet_type != packet::MEDIA {
         return false;
     }
     if x.field as u64 != field {
@@ -52,7 +52,7 @@ fn carries(x: Piece, track: u64, field: u64) -> bool
     if x.track as u64 != track {
         return false;
     }
-    media_type::is_known(kind)
+    media_type::is_known(media_type)
 }
 
 // The first carrier so far, with one packet more.
@@ -88,7 +88,7 @@ fn one_pass(s: &[u8], track: u64, field: u64) -> Run
 {
     let mut at: usize = 0;
     let mut p = order::start();
-    let mut types = Types { kinds: [0u8; 64] };
+    let mut types = Types { media_types: [0u8; 64] };
     let mut first = Spot::Nothing;
     while at < s.len() {
         match piece::piece_at(s, at, p.count == 0) {
@@ -96,13 +96,13 @@ fn one_pass(s: &[u8], track: u64, field: u64) -> Run
                 return Run::Refused(r);
             }
             PieceAnswer::Whole(x) => {
-                let role = x.role;
+                let packet_type = x.packet_type;
                 let e = at + x.len;
-                if role == packet::MAP {
+                if packet_type == packet::MAP {
                     types = map::types_of(&s[at..e]);
                 }
                 let k = number::wide(x.track);
-                let listed = types.kinds[k];
+                let listed = types.media_types[k];
                 first = first_with(first, x, at, track, field);
                 match order::take_step(p, x, at, listed, e < s.len()) {
                     Step::Refused(r) => {

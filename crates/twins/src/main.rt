@@ -1,11 +1,11 @@
 // Maps that were made outside, each followed by its twin, which lacks what the reader doesn't know: whether the two answer alike, places aside.
 // The last pairs are no twins and must not.
-use answer::Code;
-use answer::Material;
-use answer::Track;
-use answer::Value;
+use map_answer::Code;
+use map_answer::Material;
+use map_answer::Track;
+use map_answer::Value;
 use console::say;
-use items::Part;
+use map_items::Part;
 use map::MapAnswer;
 use map::TrackAnswer;
 use packet::PacketAnswer;
@@ -119,7 +119,7 @@ fn same_codes(a: Track, b: Track) -> bool {
     if a.id != b.id {
         return false;
     }
-    if a.kind != b.kind {
+    if a.media_type != b.media_type {
         return false;
     }
     let x = a.rate;
@@ -226,8 +226,8 @@ fn show_count(p: &[u8]) {
     }
 }
 
-fn show_pair(kind: &[u8], n: usize, p: &[u8], q: &[u8]) {
-    say(kind);
+fn show_pair(label: &[u8], n: usize, p: &[u8], q: &[u8]) {
+    say(label);
     figure(n);
     say(b":");
     figure(p.len());
@@ -250,7 +250,7 @@ fn length_at(s: &[u8], at: usize) -> usize {
     }
 }
 
-fn show_pairs(kind: &[u8], s: &[u8]) {
+fn show_pairs(label: &[u8], s: &[u8]) {
     let mut at: usize = 0;
     let mut n: usize = 0;
     while at < s.len() {
@@ -268,17 +268,17 @@ fn show_pairs(kind: &[u8], s: &[u8]) {
         }
         let f = e + b;
         n += 1;
-        show_pair(kind, n, &s[at..e], &s[e..f]);
+        show_pair(label, n, &s[at..e], &s[e..f]);
         at = f;
     }
 }
 
-fn show_file(path: &[u8], kind: &[u8]) {
+fn show_file(path: &[u8], label: &[u8]) {
     let mut buffer = [0u8; 131072];
     let n = console::load(path, &mut buffer);
     say(path);
     say(b"\n");
-    show_pairs(kind, &buffer[0..n]);
+    show_pairs(label, &buffer[0..n]);
 }
 
 fn main() {

@@ -4,7 +4,7 @@ use Rattle.book_builder.proofs.put_records.Tie as tie
 use native.Mathlib.Omega.{arith}
 use mathlib.Core.Path.{refl, sym, _∙_, ap}
 use lib.ListN.{length}
-use Rattle.book.specs.Book.{bytesOf}
+use Rattle.book.specs.Book.{bookBytes}
 use Rattle.book.specs.declared.Entry.{Entry}
 use mathlib.Core.List.{List}
 use Rattle.book_builder.proofs.Laws.{here-one, here-none, bytes-one}
@@ -32,7 +32,7 @@ returns : tie.Need-returns
 returns c = rw (here-one (c .before .before .before .before .before .before .before .before .args .at) (c .before .before .before .before .before .before .before .before .args .x) (sym (c .before .before .before .before .before .before .is-recorded .ensures) ∙ c .before .before .before .before .before .if1 .taken), bytes-one) (omega arith, c .before .before .put-record .ensures)
 
 returns-2 : tie.Need-returns-2
-unfolding bytesOf
+unfolding bookBytes
 returns-2 c = rw (here-none (c .before .before .before .args .at) (c .before .before .before .args .x) (sym (c .before .is-recorded .ensures) ∙ c .if1 .left)) (omega arith, refl)
 
 pub put-records-spec : {M : Type 1} → statement M

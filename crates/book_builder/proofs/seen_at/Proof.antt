@@ -13,11 +13,11 @@ use borrow.Author.Tests.{eq-eqb, ne-eqb}
 use Rattle.number.proofs.Laws.{be-lt}
 use Rattle.book_builder.specs.BookBuilder.{seenAt}
 
-add-role : tie.Need-add-role
-add-role c = search needs
+add-packet-type : tie.Need-add-packet-type
+add-packet-type c = search needs
 
-shared-slice-read-role : tie.Need-shared-slice-read-role
-shared-slice-read-role c = search needs
+shared-slice-read-packet-type : tie.Need-shared-slice-read-packet-type
+shared-slice-read-packet-type c = search needs
 
 add-be4 : tie.Need-add-be4
 add-be4 c = search needs
@@ -58,8 +58,8 @@ pub seen-at-spec : {M : Type 1} → statement M
 seen-at-spec =
     tie.close
     (tie.spec
-    add-role
-    shared-slice-read-role
+    add-packet-type
+    shared-slice-read-packet-type
     add-be4
     be4-requires
     add-be4-2

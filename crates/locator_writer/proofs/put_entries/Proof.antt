@@ -6,17 +6,17 @@ use Prim.Native.Nat.{_≤_, _-_}
 use mathlib.Core.Path.{_≡_, refl, _∙_}
 use lib.ListN.{length, take}
 use lib.Seq.{sets, take-all}
-use Rattle.locator_writer.specs.Write.{entriesOf}
+use Rattle.locator_writer.specs.Write.{entryBytes}
 use Rattle.locator_writer.proofs.Laws.{entry-more}
 
 abbrev Inv-loop : tie.InvT-loop
-Inv-loop out₀ at offsets k₀ out k = (k ≤ length offsets) × (length out ≡ length out₀) × (out ≡ sets out₀ at (entriesOf (take k offsets)))
+Inv-loop out₀ at offsets k₀ out k = (k ≤ length offsets) × (length out ≡ length out₀) × (out ≡ sets out₀ at (entryBytes (take k offsets)))
 
 abbrev μ-loop : tie.MeasureT-loop
 μ-loop out₀ at offsets k₀ out k = length offsets - k
 
 loop-holds : tie.Need-loop-holds Inv-loop μ-loop
-unfolding entriesOf
+unfolding entryBytes
 loop-holds c = (search needs, search needs, refl)
 
 mul-put-le : tie.Need-mul-put-le Inv-loop μ-loop

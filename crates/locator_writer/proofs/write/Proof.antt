@@ -7,7 +7,7 @@ use lib.ListN.{length}
 use mathlib.Core.Path.{_∙_, sym, ap}
 use Rattle.packet_writer.specs.declared.WriteAnswer.the-variants.{Refused}
 use Rattle.packet_writer.proofs.Laws.{part-over, has-room}
-use Rattle.locator_writer.specs.Write.{packetOf}
+use Rattle.locator_writer.specs.Write.{locatorPacket}
 use Rattle.locator_writer.proofs.Laws.{length-packet, barred, no-room, wrote}
 
 may-write-requires : tie.Need-may-write-requires
@@ -51,7 +51,7 @@ returns-2 c =
     let l = length-packet (a .step) (a .offsets .now) in
     let h = has-room (length (a .out .now)) (a .at) (24 + 4 * length (a .offsets .now)) (sym (c .before .before .before .before .before .lacks-room .ensures) ∙ c .before .before .before .before .if2 .left) in
     let w = wrote (a .out .now) (a .at) (a .step) (a .offsets .now) (sym (c .before .before .before .before .before .before .before .may-write .ensures) ∙ c .before .before .before .before .before .before .if1 .taken) (omega arith) in
-    (sym (w .0), rw (c .before .before .put-packet .ensures) (part-over (a .out .now) (packetOf (a .step) (a .offsets .now)) (a .at) (omega arith)) ∙ sym (w .1))
+    (sym (w .0), rw (c .before .before .put-packet .ensures) (part-over (a .out .now) (locatorPacket (a .step) (a .offsets .now)) (a .at) (omega arith)) ∙ sym (w .1))
 
 refuse-requires-2 : tie.Need-refuse-requires-2
 refuse-requires-2 c κs = search needs

@@ -2,7 +2,7 @@ use borrow.Author.Needs.{needs}
 use Rattle.map.proofs.count_of.Statement.{statement}
 use Rattle.map.proofs.count_of.Tie as tie
 use mathlib.Core.Path.{_∙_}
-use Rattle.track_section.proofs.Listed.{count-anywhere}
+use Rattle.map_tracks.proofs.Listed.{count-anywhere}
 use Rattle.map.specs.Map.{listedIn}
 
 track-part-requires : tie.Need-track-part-requires

@@ -2,7 +2,7 @@ use Rattle.map_given.proofs.is_text.Statement.{statement}
 use Rattle.map_given.proofs.is_text.Tie as tie
 use borrow.Author.Tests.{eq-eqb, ne-eqb}
 use Rattle.map_given.specs.Faults.{isText}
-use Rattle.items.specs.Judge.{has}
+use Rattle.map_items.specs.Judge.{has}
 use mathlib.Core.Path.{_≡_, refl}
 use mathlib.Core.Bool.{Bool, true, false}
 use Rattle.plate.specs.Choice.{pick}

@@ -9,11 +9,11 @@ use lib.ListN.{getD}
 use Rattle.map_given.proofs.Laws.{gives-4D, gives-4F}
 use Rattle.media_type.specs.MediaType.{knownType}
 
-mul-kind : tie.Need-mul-kind
-mul-kind c = search needs
+mul-media-type : tie.Need-mul-media-type
+mul-media-type c = search needs
 
-shared-slice-read-kind : tie.Need-shared-slice-read-kind
-shared-slice-read-kind c = search needs
+shared-slice-read-media-type : tie.Need-shared-slice-read-media-type
+shared-slice-read-media-type c = search needs
 
 returns : tie.Need-returns
 unfolding ownFault knownType
@@ -67,8 +67,8 @@ pub own-fault-spec : {M : Type 1} → statement M
 own-fault-spec =
     tie.close
     (tie.spec
-    mul-kind
-    shared-slice-read-kind
+    mul-media-type
+    shared-slice-read-media-type
     returns
     cast-is-known
     is-known-requires

@@ -7,14 +7,14 @@ use mathlib.Core.Path.{refl, _∙_, ap}
 use lib.ListN.{length}
 use lib.Seq.{sets}
 use Rattle.map_given.specs.Given.{slots}
-use Rattle.items.specs.Items.{bytesOf}
+use Rattle.map_items.specs.Items.{itemsBytes}
 use Rattle.map_writer.specs.Write.{itemsOf}
 use Rattle.map_writer.proofs.Puts.{SlotsLeft, slot-clean, slot-room, slots-turn, slots-done}
 use Rattle.map_writer.specs.Sizes.{slotSize}
 
 abbrev Inv-loop : tie.InvT-loop
 Inv-loop out₀ pos text ws at tag n to₀ place₀ next₀ left₀ out to place next left =
-    SlotsLeft (sets out₀ pos (bytesOf (itemsOf text (slots n ws at tag)))) text ws (length out₀) out to place next left
+    SlotsLeft (sets out₀ pos (itemsBytes (itemsOf text (slots n ws at tag)))) text ws (length out₀) out to place next left
 
 abbrev μ-loop : tie.MeasureT-loop
 μ-loop out₀ pos text ws at tag n to₀ place₀ next₀ left₀ out to place next left = left

@@ -5,7 +5,7 @@ use native.Mathlib.Omega.{arith}
 use mathlib.Core.Path.{_∙_}
 use Prim.Native.Nat.{_+_}
 use lib.ListN.{length-set}
-use Rattle.items.specs.Items.{bytesOf}
+use Rattle.map_items.specs.Items.{itemsBytes}
 use Rattle.map_given.specs.Given.{slots, trackAt}
 use Rattle.map_writer.specs.Write.{itemsOf}
 use Rattle.map_writer.proofs.PutTracks.{track-bytes, track-run}
@@ -72,7 +72,7 @@ returns c =
     let a = c .before .before .before .before .before .before .before .before .before .before .before .before .before .args in
     let p = c .before .before .before .before .before .before .before .before .before .before .before .before .before .pre in
     c .before .before .put-slots .ensures ∙ rw (c .before .before .before .before .before .before .put-be .ensures, p .1, track-bytes (a .text .now) (trackAt (a .ts .now) (a .at)) (p .3))
-    (track-run (a .out .now) (bytesOf (itemsOf (a .text .now) (slots 7 (a .ts .now) (a .at + 2) 0x4C))) (a .pos) _ _ _)
+    (track-run (a .out .now) (itemsBytes (itemsOf (a .text .now) (slots 7 (a .ts .now) (a .at + 2) 0x4C))) (a .pos) _ _ _)
 
 pub put-track-spec : {M : Type 1} → statement M
 put-track-spec =

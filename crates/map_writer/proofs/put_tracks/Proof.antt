@@ -8,7 +8,7 @@ use lib.ListN.{length}
 use lib.Seq.{sets}
 use Rattle.map_given.specs.Given.{tracksGiven}
 use Rattle.map_writer.specs.Sizes.{tracksBytes}
-use Rattle.map_writer.proofs.PutTracks.{TracksLeft, track-clean, track-narrow, track-kind, track-room, tracks-turn, tracks-done}
+use Rattle.map_writer.proofs.PutTracks.{TracksLeft, track-clean, track-narrow, track-type, track-room, tracks-turn, tracks-done}
 use Rattle.map_given.proofs.Clean.{ids-narrow}
 
 abbrev Inv-loop : tie.InvT-loop
@@ -36,7 +36,7 @@ put-track-requires c κs =
     let n = l .inv .long in
     let w = l .inv .words in
     let e = c .before .slots-size .ensures in
-    (omega arith, e, omega arith, track-clean _ _ _ _ _ _ _ _ t (l .inv) .1, track-kind _ _ _ _ _ _ _ _ t (l .inv), track-narrow _ _ _ _ _ _ _ _ t (l .inv) .0)
+    (omega arith, e, omega arith, track-clean _ _ _ _ _ _ _ _ t (l .inv) .1, track-type _ _ _ _ _ _ _ _ t (l .inv), track-narrow _ _ _ _ _ _ _ _ t (l .inv) .0)
 
 add-to : tie.Need-add-to Inv-loop μ-loop
 add-to c =

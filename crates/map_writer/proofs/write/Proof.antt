@@ -11,7 +11,7 @@ use Rattle.map.specs.Encode.{padding}
 use Rattle.map.proofs.Encoded.{padding-under}
 use Rattle.map_given.specs.Given.{materialSlots, tracksGiven}
 use Rattle.map_writer.specs.Sizes.{slotsSize, tracksSize}
-use Rattle.map_writer.specs.Write.{packetOf}
+use Rattle.map_writer.specs.Write.{mapPacket}
 use Rattle.map_writer.proofs.Laws.{slots-under, cap-under, cap-is}
 use Rattle.map_given.proofs.Clean.{clean}
 use Rattle.map_writer.proofs.Packet.{packet-size, faulty, section-over, no-room, wrote}
@@ -106,7 +106,7 @@ returns-4 c =
     let h = has-room (length (a .out .now)) (a .at) _ e in
     let g = packet-size (a .text .now) (a .material .now) (a .tracks .now) (clean _ _ _ f) in
     let w = wrote (a .out .now) (a .at) (a .text .now) (a .material .now) (a .tracks .now) f (omega (arith, c .before .before .before .before .before .before .before .if2 .left, t)) (rw q at e) in
-    (sym (w .0 ∙ sym (ap Length q)), rw (c .before .before .put-packet .ensures) (part-over (a .out .now) (packetOf (a .text .now) (a .material .now) (a .tracks .now)) (a .at) (omega arith)) ∙ sym (w .1))
+    (sym (w .0 ∙ sym (ap Length q)), rw (c .before .before .put-packet .ensures) (part-over (a .out .now) (mapPacket (a .text .now) (a .material .now) (a .tracks .now)) (a .at) (omega arith)) ∙ sym (w .1))
 
 pub write-spec : {M : Type 1} → statement M
 write-spec =

@@ -15,8 +15,8 @@ returns : tie.Need-returns
 unfolding preambleOf
 returns c = search (tests, ← c .before .before .left .ensures, c .refuse .ensures)
 
-shared-slice-read-kind : tie.Need-shared-slice-read-kind
-shared-slice-read-kind c = search needs
+shared-slice-read-media-type : tie.Need-shared-slice-read-media-type
+shared-slice-read-media-type c = search needs
 
 shared-slice-read-track : tie.Need-shared-slice-read-track
 shared-slice-read-track c = search needs
@@ -60,7 +60,7 @@ preamble-spec =
     left-requires
     refuse-requires
     returns
-    shared-slice-read-kind
+    shared-slice-read-media-type
     shared-slice-read-track
     refuse-requires-2
     returns-2

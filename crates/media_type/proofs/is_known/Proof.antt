@@ -13,23 +13,23 @@ as-it-is false = refl
 
 returns : tie.Need-returns
 unfolding knownType
-returns c = let k = c .before .args .kind in simp (le-leb 3 k (omega arith), lt-leb k 4 (omega arith), le-leb 7 k (omega arith), lt-leb k 18 (omega arith), le-leb 20 k (omega arith))
+returns c = let k = c .before .args .media-type in simp (le-leb 3 k (omega arith), lt-leb k 4 (omega arith), le-leb 7 k (omega arith), lt-leb k 18 (omega arith), le-leb 20 k (omega arith))
 
 returns-2 : tie.Need-returns-2
 unfolding knownType
-returns-2 c = let k = c .before .before .args .kind in simp (lt-leb 3 k (omega arith), lt-leb 7 k (omega arith), lt-leb 20 k (omega arith))
+returns-2 c = let k = c .before .before .args .media-type in simp (lt-leb 3 k (omega arith), lt-leb 7 k (omega arith), lt-leb 20 k (omega arith))
 
 returns-3 : tie.Need-returns-3
 unfolding knownType
-returns-3 c = let k = c .before .before .before .args .kind in simp (le-leb 3 k (omega arith), le-leb k 4 (omega arith))
+returns-3 c = let k = c .before .before .before .args .media-type in simp (le-leb 3 k (omega arith), le-leb k 4 (omega arith))
 
 returns-4 : tie.Need-returns-4
 unfolding knownType
-returns-4 c = let k = c .before .before .before .before .args .kind in simp (le-leb 3 k (omega arith), lt-leb k 4 (omega arith), lt-leb 7 k (omega arith), lt-leb 20 k (omega arith))
+returns-4 c = let k = c .before .before .before .before .args .media-type in simp (le-leb 3 k (omega arith), lt-leb k 4 (omega arith), lt-leb 7 k (omega arith), lt-leb 20 k (omega arith))
 
 returns-5 : tie.Need-returns-5
 unfolding knownType
-returns-5 c = let k = c .before .before .before .before .args .kind in simp (le-leb 3 k (omega arith), lt-leb k 4 (omega arith), le-leb 7 k (omega arith), lt-leb 20 k (omega arith)) (as-it-is _)
+returns-5 c = let k = c .before .before .before .before .args .media-type in simp (le-leb 3 k (omega arith), lt-leb k 4 (omega arith), le-leb 7 k (omega arith), lt-leb 20 k (omega arith)) (as-it-is _)
 
 pub is-known-spec : {M : Type 1} → statement M
 is-known-spec = tie.close (tie.spec returns returns-2 returns-3 returns-4 returns-5)

@@ -11,7 +11,7 @@ use Rattle.mpeg.proofs.label_at.Reads as label-at-reads
 use Rattle.mpeg.proofs.skip.Reads as skip-reads
 use Rattle.mpeg.proofs.take_line.Reads as take-line-reads
 use Rattle.plate.proofs.refuse.Reads as refuse-reads
-use Rattle.scan.proofs.until.Reads as until-reads
+use Rattle.mpeg_scan.proofs.until.Reads as until-reads
 use Rattle.mpeg.proofs.+ident+value.{statement}
 use Rattle.mpeg.proofs.+ident+value.Tie.{close}
 use borrow.Author.Needs.{needs}
@@ -19,9 +19,9 @@ use native.Mathlib.Omega.{arith}
 use Prim.Native.Nat.{_-_, _≤_}
 use mathlib.Core.Path.{sym, refl, _∙_}
 use lib.ListN.{length}
-use Rattle.scan.specs.Scan.{other}
+use Rattle.mpeg_scan.specs.Scan.{other}
 use Rattle.mpeg.specs.Lines.{linesAt}
-use Rattle.scan.proofs.Laws.{run-from}
+use Rattle.mpeg_scan.proofs.Laws.{run-from}
 use Rattle.mpeg.proofs.Turns.{label-in}
 use Rattle.mpeg.proofs.Judging.{judge-end, judge-broken, judge-names, judge-cut, judge-fault, judge-taken}
 

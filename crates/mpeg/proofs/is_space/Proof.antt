@@ -2,7 +2,7 @@ use borrow.Author.Needs.{needs}
 use Rattle.mpeg.proofs.is_space.Statement.{statement}
 use Rattle.mpeg.proofs.is_space.Tie as tie
 use Prim.Native.Nat.{ℕ}
-use Rattle.scan.proofs.Laws.{past}
+use Rattle.mpeg_scan.proofs.Laws.{past}
 
 shared-slice-read-result : tie.Need-shared-slice-read-result
 shared-slice-read-result c = search needs

@@ -2,8 +2,8 @@ use borrow.Author.Needs.{needs}
 use Rattle.mpeg.proofs.row_of.Statement.{statement}
 use Rattle.mpeg.proofs.row_of.Tie as tie
 use mathlib.Core.Path.{sym}
-use Rattle.parameter.specs.Table.{rowOf}
-use Rattle.parameter.proofs.Rows.{long}
+use Rattle.mpeg_parameter.specs.Table.{rowOf}
+use Rattle.mpeg_parameter.proofs.Rows.{long}
 
 returns : tie.Need-returns
 returns c = long _ (c .before .before .pre) (c .if1 .taken)

@@ -5,7 +5,7 @@ use native.Mathlib.Omega.{arith}
 use mathlib.Core.Path.{sym, _∙_, refl}
 use borrow.Author.Tests.{lt-ltb, le-ltb, eq-eqb, ne-eqb}
 use Rattle.mpeg.specs.Read.{taken}
-use Rattle.parameter.proofs.Laws.{amount-most}
+use Rattle.mpeg_parameter.proofs.Laws.{amount-most}
 
 returns : tie.Need-returns
 unfolding taken

@@ -1,14 +1,14 @@
-use Rattle.order.proofs.or_role.Statement.{statement}
-use Rattle.order.proofs.or_role.Tie as tie
-use Rattle.order.specs.Order.{eitherRole}
+use Rattle.order.proofs.or_type.Statement.{statement}
+use Rattle.order.proofs.or_type.Tie as tie
+use Rattle.order.specs.Order.{eitherType}
 
 returns : tie.Need-returns
-unfolding eitherRole
+unfolding eitherType
 returns c = rw (c .if1 .taken)
 
 returns-2 : tie.Need-returns-2
-unfolding eitherRole
+unfolding eitherType
 returns-2 c = rw (c .if1 .left)
 
-pub or-role-spec : {M : Type 1} → statement M
-or-role-spec = tie.close (tie.spec returns returns-2)
+pub or-type-spec : {M : Type 1} → statement M
+or-type-spec = tie.close (tie.spec returns returns-2)

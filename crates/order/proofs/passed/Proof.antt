@@ -2,13 +2,13 @@ use borrow.Author.Needs.{needs}
 use Rattle.order.proofs.passed.Statement.{statement}
 use Rattle.order.proofs.passed.Tie as tie
 use borrow.Author.Tests.{eq-eqb, ne-eqb}
-use Rattle.order.specs.Order.{after}
+use Rattle.order.specs.Order.{progressAfter}
 
-or-role-requires : tie.Need-or-role-requires
-or-role-requires c κs = search needs
+or-type-requires : tie.Need-or-role-requires
+or-type-requires c κs = search needs
 
-or-role-requires-2 : tie.Need-or-role-requires-2
-or-role-requires-2 c κs = search needs
+or-type-requires-2 : tie.Need-or-role-requires-2
+or-type-requires-2 c κs = search needs
 
 falls-due-requires : tie.Need-falls-due-requires
 falls-due-requires c κs = search needs
@@ -17,7 +17,7 @@ add-t7 : tie.Need-add-t7
 add-t7 c = search needs
 
 returns : tie.Need-returns
-unfolding after
+unfolding progressAfter
 returns c = rw (eq-eqb _ _ (c .before .if1 .taken), c .before .before .before .before .or-role .ensures, c .before .before .before .or-role2 .ensures, c .before .before .falls-due .ensures)
 
 add-t8 : tie.Need-add-t8
@@ -27,15 +27,15 @@ add-t9 : tie.Need-add-t9
 add-t9 c = search needs
 
 returns-2 : tie.Need-returns-2
-unfolding after
+unfolding progressAfter
 returns-2 c = rw (ne-eqb _ _ (c .before .before .if1 .left), c .before .before .before .before .before .or-role .ensures, c .before .before .before .before .or-role2 .ensures, c .before .before .before .falls-due .ensures)
 
 pub passed-spec : {M : Type 1} → statement M
 passed-spec =
     tie.close
     (tie.spec
-    or-role-requires
-    or-role-requires-2
+    or-type-requires
+    or-type-requires-2
     falls-due-requires
     add-t7
     returns

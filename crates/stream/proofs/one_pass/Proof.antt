@@ -8,13 +8,13 @@ use Prim.Native.Nat.{_≤_, _-_}
 use mathlib.Core.Logic.{⊎-elim}
 use native.Mathlib.Nat.{add-sub-cancel-left}
 use lib.ListN.{length}
-use Rattle.track_section.specs.declared.Types.{Types}
+use Rattle.map_tracks.specs.declared.Types.{Types}
 use Rattle.piece.proofs.Laws.{told}
 use Rattle.stream.specs.Stream.{typesAfter}
 use Rattle.stream.proofs.Laws.{Left, begin, on-out, on-refused, on-step-refused, on-ended, on-next, next-bounds}
 
 abbrev Inv-loop : tie.InvT-loop
-Inv-loop s track field at₀ p₀ types₀ first₀ at p types first = (at ≤ length s) × (p .count ≤ at) × (p .since ≤ at) × Left s track field at p (types .kinds) first
+Inv-loop s track field at₀ p₀ types₀ first₀ at p types first = (at ≤ length s) × (p .count ≤ at) × (p .«since_map» ≤ at) × Left s track field at p (types .«media_types») first
 
 abbrev μ-loop : tie.MeasureT-loop
 μ-loop s track field at₀ p₀ types₀ first₀ at p types first = length s - at
@@ -70,11 +70,11 @@ enum-known-r-2 c = search needs
 returns-2 : tie.Need-returns-2 Inv-loop μ-loop
 returns-2 c =
     let a = c .before .before .before .before .before .before .before .before .before .before .before .before .before .before .before .before .before .before .args in let l = c .before .before .before .before .before .before .before .before .before .before .before .before .before .before .before .loop in let x = c .before .before .before .before .before .before .before .before .before .before .x .given .0 .0 in
-    let t : c .before .before .before .before .before .before .before .if1 .types .kinds ≡ typesAfter (a .s .now) (l .at) x (l .types .kinds) =
-    ⊎-elim (λ w. rw (eq-eqb _ _ (w .0 .taken)) (ap (λ (k : Types). k .kinds) (w .3) ∙ rw add-sub-cancel-left at (w .2 .ensures)))
-    (λ w. rw (ne-eqb _ _ (w .0 .left)) (ap (λ (k : Types). k .kinds) (w .1))) (c .before .before .before .before .before .before .before .if1 .came) in
+    let t : c .before .before .before .before .before .before .before .if1 .types .«media_types» ≡ typesAfter (a .s .now) (l .at) x (l .types .«media_types») =
+    ⊎-elim (λ w. rw (eq-eqb _ _ (w .0 .taken)) (ap (λ (k : Types). k .«media_types») (w .3) ∙ rw add-sub-cancel-left at (w .2 .ensures)))
+    (λ w. rw (ne-eqb _ _ (w .0 .left)) (ap (λ (k : Types). k .«media_types») (w .1))) (c .before .before .before .before .before .before .before .if1 .came) in
     let e = sym (c .before .before .before .before .before .before .before .before .before .before .before .before .piece-at .ensures) ∙ c .before .before .before .before .before .before .before .before .before .before .x .given .1 in
-    on-step-refused (a .s .now) (a .track) (a .field) (l .at) (l .p) (l .types .kinds) (l .first) (l .inv .3) (c .before .before .before .before .before .before .before .before .before .before .before .before .before .before .loop-test .taken) x e (c .before .before .before .before .before .before .before .if1 .types .kinds) t _ (sym (rw (c .before .before .before .before .before .before .wide .ensures) at (c .before .before .before .take-step .ensures)) ∙ c .before .r2 .given .1)
+    on-step-refused (a .s .now) (a .track) (a .field) (l .at) (l .p) (l .types .«media_types») (l .first) (l .inv .3) (c .before .before .before .before .before .before .before .before .before .before .before .before .before .before .loop-test .taken) x e (c .before .before .before .before .before .before .before .if1 .types .«media_types») t _ (sym (rw (c .before .before .before .before .before .before .wide .ensures) at (c .before .before .before .take-step .ensures)) ∙ c .before .r2 .given .1)
 
 enum-known-count : tie.Need-enum-known-count Inv-loop μ-loop
 enum-known-count c = search needs
@@ -82,11 +82,11 @@ enum-known-count c = search needs
 returns-3 : tie.Need-returns-3 Inv-loop μ-loop
 returns-3 c =
     let a = c .before .before .before .before .before .before .before .before .before .before .before .before .before .before .before .before .before .before .args in let l = c .before .before .before .before .before .before .before .before .before .before .before .before .before .before .before .loop in let x = c .before .before .before .before .before .before .before .before .before .before .x .given .0 .0 in
-    let t : c .before .before .before .before .before .before .before .if1 .types .kinds ≡ typesAfter (a .s .now) (l .at) x (l .types .kinds) =
-    ⊎-elim (λ w. rw (eq-eqb _ _ (w .0 .taken)) (ap (λ (k : Types). k .kinds) (w .3) ∙ rw add-sub-cancel-left at (w .2 .ensures)))
-    (λ w. rw (ne-eqb _ _ (w .0 .left)) (ap (λ (k : Types). k .kinds) (w .1))) (c .before .before .before .before .before .before .before .if1 .came) in
+    let t : c .before .before .before .before .before .before .before .if1 .types .«media_types» ≡ typesAfter (a .s .now) (l .at) x (l .types .«media_types») =
+    ⊎-elim (λ w. rw (eq-eqb _ _ (w .0 .taken)) (ap (λ (k : Types). k .«media_types») (w .3) ∙ rw add-sub-cancel-left at (w .2 .ensures)))
+    (λ w. rw (ne-eqb _ _ (w .0 .left)) (ap (λ (k : Types). k .«media_types») (w .1))) (c .before .before .before .before .before .before .before .if1 .came) in
     let e = sym (c .before .before .before .before .before .before .before .before .before .before .before .before .piece-at .ensures) ∙ c .before .before .before .before .before .before .before .before .before .before .x .given .1 in
-    rw (c .before .before .before .before .first-with .ensures) (on-ended (a .s .now) (a .track) (a .field) (l .at) (l .p) (l .types .kinds) (l .first) (l .inv .3) (c .before .before .before .before .before .before .before .before .before .before .before .before .before .before .loop-test .taken) x e (c .before .before .before .before .before .before .before .if1 .types .kinds) t _ (sym (rw (c .before .before .before .before .before .before .wide .ensures) at (c .before .before .before .take-step .ensures)) ∙ c .before .count .given .1))
+    rw (c .before .before .before .before .first-with .ensures) (on-ended (a .s .now) (a .track) (a .field) (l .at) (l .p) (l .types .«media_types») (l .first) (l .inv .3) (c .before .before .before .before .before .before .before .before .before .before .before .before .before .before .loop-test .taken) x e (c .before .before .before .before .before .before .before .if1 .types .«media_types») t _ (sym (rw (c .before .before .before .before .before .before .wide .ensures) at (c .before .before .before .take-step .ensures)) ∙ c .before .count .given .1))
 
 enum-known-next : tie.Need-enum-known-next Inv-loop μ-loop
 enum-known-next c = search needs
@@ -97,14 +97,14 @@ loop-less c = let w = told _ _ _ _ (sym (c .before .before .before .before .befo
 loop-again : tie.Need-loop-again Inv-loop μ-loop
 loop-again c =
     let a = c .before .before .before .before .before .before .before .before .before .before .before .before .before .before .before .before .before .before .args in let l = c .before .before .before .before .before .before .before .before .before .before .before .before .before .before .before .loop in let x = c .before .before .before .before .before .before .before .before .before .before .x .given .0 .0 in
-    let t : c .before .before .before .before .before .before .before .if1 .types .kinds ≡ typesAfter (a .s .now) (l .at) x (l .types .kinds) =
-    ⊎-elim (λ w. rw (eq-eqb _ _ (w .0 .taken)) (ap (λ (k : Types). k .kinds) (w .3) ∙ rw add-sub-cancel-left at (w .2 .ensures)))
-    (λ w. rw (ne-eqb _ _ (w .0 .left)) (ap (λ (k : Types). k .kinds) (w .1))) (c .before .before .before .before .before .before .before .if1 .came) in
+    let t : c .before .before .before .before .before .before .before .if1 .types .«media_types» ≡ typesAfter (a .s .now) (l .at) x (l .types .«media_types») =
+    ⊎-elim (λ w. rw (eq-eqb _ _ (w .0 .taken)) (ap (λ (k : Types). k .«media_types») (w .3) ∙ rw add-sub-cancel-left at (w .2 .ensures)))
+    (λ w. rw (ne-eqb _ _ (w .0 .left)) (ap (λ (k : Types). k .«media_types») (w .1))) (c .before .before .before .before .before .before .before .if1 .came) in
     let e = sym (c .before .before .before .before .before .before .before .before .before .before .before .before .piece-at .ensures) ∙ c .before .before .before .before .before .before .before .before .before .before .x .given .1 in
     let f = (sym (rw (c .before .before .before .before .before .before .wide .ensures) at (c .before .before .before .take-step .ensures)) ∙ c .before .next .given .1) in
     let w = told _ _ _ _ e in
     let b = next-bounds _ _ _ _ _ _ f in
-    (omega (arith, w .cut .within), omega (arith, w .cut .least, b .0), omega (arith, w .cut .least, b .1), rw (c .before .before .before .before .first-with .ensures) (on-next (a .s .now) (a .track) (a .field) (l .at) (l .p) (l .types .kinds) (l .first) (l .inv .3) (c .before .before .before .before .before .before .before .before .before .before .before .before .before .before .loop-test .taken) x e (c .before .before .before .before .before .before .before .if1 .types .kinds) t _ f))
+    (omega (arith, w .cut .within), omega (arith, w .cut .least, b .0), omega (arith, w .cut .least, b .1), rw (c .before .before .before .before .first-with .ensures) (on-next (a .s .now) (a .track) (a .field) (l .at) (l .p) (l .types .«media_types») (l .first) (l .inv .3) (c .before .before .before .before .before .before .before .before .before .before .before .before .before .before .loop-test .taken) x e (c .before .before .before .before .before .before .before .if1 .types .«media_types») t _ f))
 
 run-out-requires : tie.Need-run-out-requires Inv-loop μ-loop
 run-out-requires c κs = search needs

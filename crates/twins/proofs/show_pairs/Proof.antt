@@ -10,10 +10,10 @@ use Prim.Native.Nat.{_≤_, _-_}
 use lib.ListN.{length}
 
 abbrev Inv-loop : tie.InvT-loop
-Inv-loop kind s at₀ n₀ at n = (n ≤ at) × (at ≤ length s)
+Inv-loop mediaType s at₀ n₀ at n = (n ≤ at) × (at ≤ length s)
 
 abbrev μ-loop : tie.MeasureT-loop
-μ-loop kind s at₀ n₀ at n = length s - at
+μ-loop mediaType s at₀ n₀ at n = length s - at
 
 loop-holds : tie.Need-loop-holds Inv-loop μ-loop
 loop-holds c = search needs

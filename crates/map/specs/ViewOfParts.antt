@@ -1,0 +1,81 @@
+-- What a map's items and tracks say, with no place in it, and the items and tracks of a packet.
+use Prim.Native.Nat.{ℕ, _-_}
+use mathlib.Core.Path.{_≡_}
+use mathlib.Core.List.{List, [], _∷_, map}
+use lib.ListN.{length, getD, take, drop}
+use Rattle.plate.specs.Choice.{pick}
+use Rattle.map_items.specs.Items.{Item, sectionOf}
+use Rattle.map_items.specs.Judge.{judgeItems}
+use Rattle.map_items.specs.declared.Section.the-variants as section
+use Rattle.map_items.specs.declared.Verdict.the-variants.{Accepted}
+use Rattle.map_items.specs.Find.{Found, missing, found, find, partOf}
+use Rattle.map_answer.specs.Answer.{valueOf, codeOf, isNull}
+use Rattle.map_answer.specs.declared.Value.the-variants as value
+use Rattle.map_tracks.specs.Tracks.{Description, over, tracksOf, judgeTracks, isListed}
+use Rattle.map.specs.Map.{layoutOf, materialIn, tracksIn}
+use Rattle.map.specs.Encode.{TrackParts, MapParts, described}
+use Rattle.map.specs.View.{Held, nothing, bytes, MaterialView, TrackView, MapView}
+
+-- what was found: its stored length and its bytes
+unfoldable pub heldOf : Found → Held
+heldOf missing = nothing
+heldOf (found p v) = bytes (length v) v
+
+-- Table 4; the place at which items are sought does not matter, so it is 0
+unfoldable pub materialViewOfItems : List Item → MaterialView
+materialViewOfItems is =
+    record {
+      name = heldOf (find 0x40 0 is);
+      first = valueOf (find 0x41 0 is);
+      last = valueOf (find 0x42 0 is);
+      markIn = valueOf (find 0x43 0 is);
+      markOut = valueOf (find 0x44 0 is);
+      size = valueOf (find 0x45 0 is);
+    }
+
+-- Table 6; a null name hides 4D, 4E and 4F
+unfoldable pub trackViewOfParts : TrackParts → TrackView
+trackViewOfParts t =
+    record {
+      id = t .id - 0xC0;
+      mediaType = t .typeByte - 0x80;
+      rate = codeOf 0x50 (valueOf (find 0x50 0 (t .items)));
+      lines = codeOf 0x51 (valueOf (find 0x51 0 (t .items)));
+      fields = codeOf 0x52 (valueOf (find 0x52 0 (t .items)));
+      version = pick (isNull (partOf (find 0x4C 0 (t .items)))) value.Absent (valueOf (find 0x4E 0 (t .items)));
+      name = heldOf (find 0x4C 0 (t .items));
+      aux = pick (isNull (partOf (find 0x4C 0 (t .items)))) nothing (heldOf (find 0x4D 0 (t .items)));
+      mpeg = pick (isNull (partOf (find 0x4C 0 (t .items)))) nothing (heldOf (find 0x4F 0 (t .items)));
+    }
+
+-- the tracks of known media type, in map order
+unfoldable pub listedOf : List TrackParts → List TrackParts
+listedOf [] = []
+listedOf (t ∷ ts) = pick (isListed (described t)) (t ∷ listedOf ts) (listedOf ts)
+
+-- the answer: the count of listed tracks, the material, and the records in order
+unfoldable pub viewOfParts : MapParts → MapView
+viewOfParts p =
+    record {
+      count = length (listedOf (p .tracks));
+      material = materialViewOfItems (p .material);
+      tracks = map trackViewOfParts (listedOf (p .tracks));
+    }
+
+-- a track's items, by lengths alone
+unfoldable pub opened : Description → TrackParts
+opened d = record { typeByte = d .typeByte; id = d .id; items = sectionOf (d .items) .items }
+
+-- the parts of a map packet, by lengths alone: the reserved bytes stand at 10 and at 17
+unfoldable pub partsOf : List ℕ → MapParts
+partsOf p =
+    record {
+      spare = take 4 (drop 10 p);
+      second = getD p 17 0;
+      material = sectionOf (materialIn p (layoutOf p)) .items;
+      tracks = map opened (tracksOf (tracksIn p (layoutOf p)) .list);
+    }
+
+-- what the reader asks of items and tracks, by its own judges; whether they accept does not depend on the place, so it is 0
+abbrev pub Good : MapParts → Type 0
+Good p = (judgeItems section.Material [] 0 (p .material) ≡ Accepted) × (judgeTracks [] 0 (map described (p .tracks)) over ≡ Accepted)

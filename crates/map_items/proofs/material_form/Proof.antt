@@ -1,0 +1,23 @@
+use Rattle.map_items.proofs.material_form.Statement.{statement}
+use Rattle.map_items.proofs.material_form.Tie as tie
+use Rattle.plate.proofs.Tests.{tests}
+use Rattle.map_items.specs.Judge.{formOf}
+
+returns : tie.Need-returns
+unfolding formOf
+returns c = search tests
+
+returns-2 : tie.Need-returns-2
+unfolding formOf
+returns-2 c = search tests
+
+returns-3 : tie.Need-returns-3
+unfolding formOf
+returns-3 c = search tests
+
+returns-4 : tie.Need-returns-4
+unfolding formOf
+returns-4 c = search tests
+
+pub material-form-spec : {M : Type 1} → statement M
+material-form-spec = tie.close (tie.spec returns returns-2 returns-3 returns-4)

@@ -1,0 +1,11 @@
+use Rattle.map_records.proofs.blank_track.Statement.{statement}
+use Rattle.map_records.proofs.blank_track.Tie as tie
+use mathlib.Core.Path.{refl}
+use Rattle.map_records.specs.Fill.{blank}
+
+returns : tie.Need-returns
+unfolding blank
+returns c = refl
+
+pub blank-track-spec : {M : Type 1} → statement M
+blank-track-spec = tie.close (tie.spec returns)
