@@ -49,7 +49,7 @@ slot-back e t h =
     let b : le (recordBytes e ++ t) 8 8 ≡ e .at = le-back (0x47 ∷ 0x58 ∷ e .track ∷ e .«media_type» ∷ leBytes 4 (e .field)) 8 (e .at) t (h .at) in
     rw (le-ltb (length (recordBytes e ++ t) - 0) 16 (omega (arith, length-append (recordBytes e) t)), a, b)
 
-back : (es : List Entry) (p : List ℕ) (f : ℕ) → AllFit es → length es < f → bookFrom (p ++ bookBytes es) f (length p) ≡ record { entries = es; whole = true }
+back : (es : List Entry) (p : List ℕ) (f : ℕ) → AllFit es → length es < f → bookFrom (p ++ bookBytes es) f (length p) ≡ record { list = es; end = true }
 unfolding bookBytes bookFrom AllFit
 back es p zero h k = absurd (omega arith)
 back [] p (suc f) h k = rw (append-nil, le-ltb (length p) (length p) (omega arith))
@@ -60,11 +60,11 @@ back (e ∷ es) p (suc f) h k =
     rw (lt-ltb _ _ a, slot-after p (recordBytes e ++ bookBytes es), slot-back e (bookBytes es) (h .0), i)
 
 -- decoding what was encoded gives the entries
-pub book-back : (es : List Entry) → AllFit es → bookOf (bookBytes es) ≡ record { entries = es; whole = true }
+pub book-back : (es : List Entry) → AllFit es → bookOf (bookBytes es) ≡ record { list = es; end = true }
 unfolding bookOf
 book-back es h = back es [] (suc (length (bookBytes es))) h (omega (arith, length-bytes es))
 
 -- lookup in encoded entries is lookup in the entries
-pub lookup-back : (es : List Entry) (track field : ℕ) → AllFit es → lookupOf (bookBytes es) track field ≡ lookupIn (record { entries = es; whole = true }) track field
+pub lookup-back : (es : List Entry) (track field : ℕ) → AllFit es → lookupOf (bookBytes es) track field ≡ lookupIn (record { list = es; end = true }) track field
 unfolding lookupOf
 lookup-back es track field h = rw (book-back es h)

@@ -8,12 +8,13 @@ use lib.ListN.{length, getD}
 use borrow.Author.Tests.{lt-ltb, le-ltb, eq-eqb, ne-eqb, ltb-true, eqb-true, eqb-false}
 use lib.Dec.{eqb, ltb}
 use Rattle.plate.specs.Choice.{pick}
+use Rattle.plate.specs.Ended.{none}
 use Rattle.plate.specs.Plate.{refusal}
 use Rattle.plate.proofs.Tests.{no-choice}
 use Rattle.number.specs.Number.{le}
 use Rattle.number.proofs.Laws.{Bytes, le-four}
 use Rattle.media_type.specs.MediaType.{knownType}
-use Rattle.book.specs.Book.{Book, ends, onSlot, Slot, broken, holds, recordAt, bookFrom, bookOf, bookAt, risesAt, stands, soundHead, judgeBook, Verdict, bad, good, verdictFrom, isOf, firstIn, orNotThere, Offset, nothing, there, ifGood, lookupOf}
+use Rattle.book.specs.Book.{Book, onSlot, Slot, broken, holds, recordAt, bookFrom, bookOf, bookAt, risesAt, stands, soundHead, judgeBook, Verdict, bad, good, verdictFrom, isOf, firstIn, orNotThere, Offset, nothing, there, ifGood, lookupOf}
 use Rattle.book.specs.declared.Entry.{Entry}
 use Rattle.book.specs.declared.LookupAnswer.{LookupAnswer}
 use Rattle.book.specs.declared.LookupAnswer.the-variants as lookup
@@ -26,7 +27,7 @@ fuel s (suc f) zero at h k = absurd (omega arith)
 fuel s (suc f) (suc g) at h k = go (fuel s f g (at + 16)) (ltb at (length s)) refl
   where
     go : (length s - (at + 16) < f → length s - (at + 16) < g → bookFrom s f (at + 16) ≡ bookFrom s g (at + 16)) → (b : Bool) → ltb at (length s) ≡ b
-        → pick b (onSlot (bookFrom s f (at + 16)) (recordAt s at)) (ends true) ≡ pick b (onSlot (bookFrom s g (at + 16)) (recordAt s at)) (ends true)
+        → pick b (onSlot (bookFrom s f (at + 16)) (recordAt s at)) (none true) ≡ pick b (onSlot (bookFrom s g (at + 16)) (recordAt s at)) (none true)
     go again true q = let l = ltb-true at (length s) q in rw (again (omega arith) (omega arith))
     go again false q = refl
 
@@ -36,7 +37,7 @@ standing n last broken = false
 standing n last (holds e) = stands n last e
 
 module _ (s : List ℕ) (n : ℕ) where
-  pub out : length s ≤ n * 16 → bookAt s n ≡ ends true
+  pub out : length s ≤ n * 16 → bookAt s n ≡ none true
   unfolding bookFrom
   out h = rw (le-ltb (n * 16) (length s) h)
 
@@ -103,7 +104,7 @@ module _ (s : List ℕ) (n last : ℕ) where
   unfolding judgeBook
   at-end h = rw (out s n h)
 
-  pub none-at-end : (track field : ℕ) → length s ≤ n * 16 → firstIn track field (bookAt s n .entries) ≡ nothing
+  pub none-at-end : (track field : ℕ) → length s ≤ n * 16 → firstIn track field (bookAt s n .list) ≡ nothing
   unfolding firstIn
   none-at-end track field h = rw (out s n h)
 
@@ -112,7 +113,7 @@ module _ (s : List ℕ) (n last : ℕ) where
     unfolding judgeBook
     fault f = rw (turn s n h) (go (recordAt s (n * 16)) f)
       where
-        go : (x : Slot) → standing n last x ≡ false → judgeBook n last (onSlot (bookAt s (n + 1)) x .entries) (onSlot (bookAt s (n + 1)) x .whole) ≡ bad n
+        go : (x : Slot) → standing n last x ≡ false → judgeBook n last (onSlot (bookAt s (n + 1)) x .list) (onSlot (bookAt s (n + 1)) x .end) ≡ bad n
         go broken f = refl
         go (holds e) f = rw f
 
@@ -129,8 +130,8 @@ module _ (s : List ℕ) (n last : ℕ) where
       unfolding judgeBook
       next = let q : stands n last (said s (n * 16)) ≡ true = rw here at f in rw (turn s n h, here, q)
 
-      pub first : (track field : ℕ) → firstIn track field (bookAt s n .entries)
-          ≡ pick (isOf track field (said s (n * 16))) (there (le s (n * 16 + 8) 8)) (firstIn track field (bookAt s (n + 1) .entries))
+      pub first : (track field : ℕ) → firstIn track field (bookAt s n .list)
+          ≡ pick (isOf track field (said s (n * 16))) (there (le s (n * 16 + 8) 8)) (firstIn track field (bookAt s (n + 1) .list))
       unfolding firstIn
       first track field = rw (turn s n h, here)
 
@@ -145,7 +146,7 @@ module _ (s : List ℕ) (g : Bytes s) (n last : ℕ) (room : n * 16 + 16 ≤ len
 
 -- what is left to do from record n on, with none found yet
 abbrev pub answerFrom : List ℕ → ℕ → ℕ → ℕ → ℕ → LookupAnswer
-answerFrom s track field n last = ifGood (verdictFrom s n last) (orNotThere (firstIn track field (bookAt s n .entries)))
+answerFrom s track field n last = ifGood (verdictFrom s n last) (orNotThere (firstIn track field (bookAt s n .list)))
 
 pub begin : (s : List ℕ) (track field : ℕ) → lookupOf s track field ≡ answerFrom s track field 0 0
 unfolding lookupOf bookOf

@@ -5,6 +5,7 @@ use mathlib.Core.List.{List, [], _∷_, _++_}
 use lib.ListN.{length, getD}
 use lib.Dec.{eqb, ltb}
 use Rattle.plate.specs.Choice.{pick}
+use Rattle.plate.specs.Ended.{Ended, none, inFront}
 use Rattle.plate.specs.Plate.{refusal}
 use Rattle.number.specs.Number.{le, leBytes}
 use Rattle.media_type.specs.MediaType.{knownType}
@@ -36,21 +37,17 @@ recordAt s at =
     broken)
 
 -- a lent book taken apart: its entries up to its end, or up to something that is no record
-pub record Book : Type 0 where
-  pub entries : List Entry
-  pub whole : Bool
-
-abbrev pub ends : Bool → Book
-ends w = record { entries = []; whole = w }
+abbrev pub Book : Type 0
+Book = Ended Entry Bool
 
 abbrev pub onSlot : Book → Slot → Book
-onSlot rest broken = ends false
-onSlot rest (holds e) = record { entries = e ∷ rest .entries; whole = rest .whole }
+onSlot rest broken = none false
+onSlot rest (holds e) = inFront e rest
 
 -- from a place on; f is more than the records that can follow
 unfoldable pub bookFrom : List ℕ → ℕ → ℕ → Book
-bookFrom s zero at = ends false
-bookFrom s (suc f) at = pick (ltb at (length s)) (onSlot (bookFrom s f (at + 16)) (recordAt s at)) (ends true)
+bookFrom s zero at = none false
+bookFrom s (suc f) at = pick (ltb at (length s)) (onSlot (bookFrom s f (at + 16)) (recordAt s at)) (none true)
 
 unfoldable pub bookOf : List ℕ → Book
 bookOf s = bookFrom s (suc (length s)) 0
@@ -98,7 +95,7 @@ ifGood (bad n) a = lookup.Refused (refusal 23 n)
 
 -- look-up (docs/DECISIONS.md, F16): 23 first, its place the number of the record; then the offset, or 16 at 0. The offset before record 0 is not looked at
 abbrev pub lookupIn : Book → ℕ → ℕ → LookupAnswer
-lookupIn b track field = ifGood (judgeBook 0 0 (b .entries) (b .whole)) (orNotThere (firstIn track field (b .entries)))
+lookupIn b track field = ifGood (judgeBook 0 0 (b .list) (b .end)) (orNotThere (firstIn track field (b .list)))
 
 unfoldable pub lookupOf : List ℕ → ℕ → ℕ → LookupAnswer
 lookupOf s track field = lookupIn (bookOf s) track field
@@ -112,4 +109,4 @@ abbrev pub bookAt : List ℕ → ℕ → Book
 bookAt s n = bookFrom s (suc (length s)) (n * 16)
 
 abbrev pub verdictFrom : List ℕ → ℕ → ℕ → Verdict
-verdictFrom s n last = judgeBook n last (bookAt s n .entries) (bookAt s n .whole)
+verdictFrom s n last = judgeBook n last (bookAt s n .list) (bookAt s n .end)

@@ -10,6 +10,7 @@ use lib.Seq.{sets, sets-eq}
 use lib.Dec.{eqb, ltb}
 use borrow.Author.Tests.{lt-ltb, le-ltb, ltb-true, ltb-false}
 use Rattle.plate.specs.Choice.{pick}
+use Rattle.plate.specs.Ended.{none, inFront}
 use Rattle.plate.specs.Plate.{refusal}
 use Rattle.plate.specs.declared.Refusal.{Refusal}
 use Rattle.number.specs.Number.{leBytes}
@@ -24,7 +25,7 @@ use Rattle.order.specs.Order.{started, misplaced, overdue, unmapped, progressAf
 use Rattle.order.specs.declared.Progress.{Progress}
 use Rattle.order.specs.declared.Step.{Step}
 use Rattle.order.specs.declared.Step.the-variants as step
-use Rattle.stream.specs.Stream.{Placed, Packets, closed, none, packetInFront, typesAfter, onPiece, packetsFrom, packets, onStep, stepAt, judgePackets, checkOf}
+use Rattle.stream.specs.Stream.{Placed, Packets, closed, typesAfter, onPiece, packetsFrom, packets, onStep, stepAt, judgePackets, checkOf}
 use Rattle.stream.proofs.Laws.{turn, out}
 use Rattle.stream.specs.declared.CheckAnswer.the-variants as check
 use Rattle.book.specs.Book.{recordBytes, bookBytes}
@@ -60,7 +61,7 @@ passing-whole : (s : List ℕ) (at : ℕ) (types : List ℕ) (next : List ℕ �
 unfolding judgePackets
 passing-whole s at types next a p r e = let j : check.Refused r ≡ check.Packets (p .packets) = rw e at (p .judged) in let z : _≡_ {A = ℕ} 0 1 = cc in absurd (omega arith)
 
-passing-next : (s : List ℕ) (x : Placed) (ps : Packets) → Passing s (packetInFront x ps) → x .at + x .piece .len < length s → Passing s ps
+passing-next : (s : List ℕ) (x : Placed) (ps : Packets) → Passing s (inFront x ps) → x .at + x .piece .len < length s → Passing s ps
 unfolding judgePackets
 passing-next s x ps p h = go (stepAt (length s) (p .progress) x) refl (p .judged)
   where
@@ -123,7 +124,7 @@ module _ (s : List ℕ) (at : ℕ) (done : List Entry) (l : Left s at done) wher
     abbrev rest : Packets
     rest = pick (eqb (x .«packet_type») 0xFB) (none closed) (packetsFrom s (l .fuel - 1) false (typesAfter s at x (l .types)) (at + x .len))
 
-    here : packetsFrom s (l .fuel) (l .first) (l .types) at ≡ packetInFront (record { at = at; piece = x; types = typesAfter s at x (l .types) }) rest
+    here : packetsFrom s (l .fuel) (l .first) (l .types) at ≡ inFront (record { at = at; piece = x; types = typesAfter s at x (l .types) }) rest
     here = now-turn ∙ rw (whole-here .0)
 
     turned : entriesIn s ≡ done ++ entriesHere at x ++ entriesOf (rest .list)

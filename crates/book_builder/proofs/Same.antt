@@ -70,7 +70,7 @@ first-in s track field = first-same track field (packets s .list)
 
 -- a book is good: no record of it is bad, and nothing else stands in it
 abbrev pub GoodBook : List ℕ → Type 0
-GoodBook book = judgeBook 0 0 (bookOf book .entries) (bookOf book .whole) ≡ good
+GoodBook book = judgeBook 0 0 (bookOf book .list) (bookOf book .end) ≡ good
 
 -- what an answer of n records tells: the stream passes the check, and n is the number of its records
 record Told (s : List ℕ) (n : ℕ) : Type 0 where

@@ -9,6 +9,7 @@ use lib.Seq.{getD-drop}
 use lib.Dec.{eqb, ltb}
 use borrow.Author.Tests.{lt-ltb, le-ltb, ne-eqb}
 use Rattle.plate.specs.Choice.{pick}
+use Rattle.plate.specs.Ended.{none}
 use Rattle.plate.specs.Plate.{refusal}
 use Rattle.number.proofs.Laws.{Bytes, be-lt}
 use Rattle.media_type.specs.MediaType.{knownType}
@@ -30,7 +31,7 @@ use Rattle.piece.specs.declared.Piece.{Piece}
 use Rattle.piece.specs.declared.PieceAnswer.{PieceAnswer}
 use Rattle.piece.specs.declared.PieceAnswer.the-variants as piece
 use Rattle.piece.proofs.Laws.{told}
-use Rattle.stream.specs.Stream.{none, closed, runsOut, typesAfter, onPiece, packetsFrom, packets}
+use Rattle.stream.specs.Stream.{closed, runsOut, typesAfter, onPiece, packetsFrom, packets}
 use Rattle.book.specs.Book.{risesAt, stands, judgeBook, good}
 use Rattle.book.specs.declared.Entry.{Entry}
 use Rattle.book.proofs.Coding.{AllFit}

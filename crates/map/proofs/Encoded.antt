@@ -234,7 +234,7 @@ module _ (p : MapParts) (f : Fit p) where
       header-encoded (p .spare) (p .second) (itemsBytes (p .material)) (tracks.descriptionsBytes (map described (p .tracks))) (f .four) (f .material) (f .tracks)
       ∙ ap (λ (n : ℕ). Whole (record { «packet_type» = 0xBC; len = n })) (sym (packet-length (p .spare) (p .second) (itemsBytes (p .material)) (tracks.descriptionsBytes (map described (p .tracks))) (f .four)))
 
-  pub material-of-encoded : sectionOf (materialIn (encode p) (layoutOf (encode p))) ≡ record { items = p .material; whole = true }
+  pub material-of-encoded : sectionOf (materialIn (encode p) (layoutOf (encode p))) ≡ record { list = p .material; end = true }
   unfolding encode
   material-of-encoded =
       rw (material-encoded (p .spare) (p .second) (itemsBytes (p .material)) (tracks.descriptionsBytes (map described (p .tracks))) (f .four) (f .material) (f .tracks)) (items.section-bytes (p .material))
@@ -246,7 +246,7 @@ module _ (p : MapParts) (f : Fit p) where
       (split.section-bytes (map described (p .tracks)) (f .each))
 
 -- and each track into its items
-pub items-of-described : (t : TrackParts) → sectionOf (described t .items) ≡ record { items = t .items; whole = true }
+pub items-of-described : (t : TrackParts) → sectionOf (described t .items) ≡ record { list = t .items; end = true }
 unfolding described
 items-of-described t = items.section-bytes (t .items)
 

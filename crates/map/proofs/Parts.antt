@@ -57,7 +57,7 @@ accepted-sections m h = go (ltb (length m) 18) (eqb (getD m 16 0) 0xE0) refl ref
     go false false q r h = not-accepted 7 16 h
 
 -- accepted tracks are whole, so their items are their bytes
-described-opened : (d : Description) → sectionOf (d .items) .whole ≡ true → described (opened d) ≡ d
+described-opened : (d : Description) → sectionOf (d .items) .end ≡ true → described (opened d) ≡ d
 unfolding described opened
 described-opened d w = rw (items.section-whole (d .items) w)
 
@@ -146,7 +146,7 @@ module _ (m : List ℕ) (b : Bytes m) (h : mapVerdict m ≡ Accepted) where
   parts-good =
       let w = whole-tracks [] (s .a + 2) ds _ judged in
       rw (s .layout, w) (
-        judge-anywhere section.Material [] 20 0 (sectionOf (part 20 (s .a) m) .items) (verdict-accepted section.Material (part 20 (s .a) m) 20 (s .material) .0),
+        judge-anywhere section.Material [] 20 0 (sectionOf (part 20 (s .a) m) .list) (verdict-accepted section.Material (part 20 (s .a) m) 20 (s .material) .0),
         tracks-anywhere [] (s .a + 2) 0 ds (rw ends at judged),
       )
 

@@ -8,6 +8,7 @@ use lib.ListN.{length, take, drop, length-append, take-append-drop}
 use lib.Seq.{length-take-le}
 use lib.Dec.{leb, eqb}
 use Rattle.plate.specs.Choice.{pick}
+use Rattle.plate.specs.Ended.{none, inFront}
 use Rattle.map_items.specs.Items.{Item, sectionOf, itemsSize, itemsBytes}
 use Rattle.map_items.specs.Items as items
 use Rattle.map_items.specs.Find.{Found, missing, found, find, partOf}
@@ -17,7 +18,7 @@ use Rattle.map_items.proofs.Split.{section-front}
 use Rattle.map_answer.specs.Answer.{valueOf, isNull, materialOf, trackOf}
 use Rattle.map_answer.specs.declared.Value.{Value}
 use Rattle.map_answer.specs.declared.Value.the-variants as value
-use Rattle.map_tracks.specs.Tracks.{Description, Placed, none, hangs, trackInFront, splitTracks, tracksOf, isListed, listed, recordOf}
+use Rattle.map_tracks.specs.Tracks.{Description, Placed, hangs, splitTracks, tracksOf, isListed, listed, recordOf}
 use Rattle.map.specs.Map.{part, layoutOf, materialIn, tracksIn, tracksAt, materialSays, listedIn}
 use Rattle.map.specs.Encode.{TrackParts, MapParts, described, encode}
 use Rattle.map.specs.View.{Held, nothing, bytes, heldAt, materialViewIn, trackViewIn, viewIn}
@@ -104,7 +105,7 @@ pub opened-there : (p : List ℕ) (q : ℕ) (d : Description) (pre post : List �
     → trackViewIn p (recordOf (record { at = q; track = d })) ≡ trackViewOfParts (opened d)
 unfolding recordOf opened
 opened-there p q d pre post l h =
-    let is = sectionOf (d .items) .items in
+    let is = sectionOf (d .items) .list in
     let rest = drop (itemsSize is) (d .items) in
     let e : p ≡ pre ++ (itemsBytes is ++ (rest ++ post)) = h ∙ ap (λ (x : List ℕ). pre ++ (x ++ post)) (sym (section-front (d .items))) ∙ ap (λ (x : List ℕ). pre ++ x) (append-assoc (itemsBytes is) rest post) in
     track-there p (q + 4) is pre (rest ++ post) l e (d .typeByte) (d .id)
@@ -157,30 +158,30 @@ section-there p post (suc f) (k ∷ i ∷ h ∷ l ∷ s) pre e =
 
     go : (b : Bool)
         → map (λ x. trackViewIn p (recordOf x)) (listed (length (pre ++ (k ∷ i ∷ h ∷ l ∷ take n s))) (splitTracks f (drop n s) .list)) ≡ map trackViewOfParts (listedOf (map opened (splitTracks f (drop n s) .list)))
-        → map (λ x. trackViewIn p (recordOf x)) (listed (length pre) (pick b (trackInFront d (splitTracks f (drop n s))) (none (hangs k i)) .list))
-        ≡ map trackViewOfParts (listedOf (map opened (pick b (trackInFront d (splitTracks f (drop n s))) (none (hangs k i)) .list)))
+        → map (λ x. trackViewIn p (recordOf x)) (listed (length pre) (pick b (inFront d (splitTracks f (drop n s))) (none (hangs k i)) .list))
+        ≡ map trackViewOfParts (listedOf (map opened (pick b (inFront d (splitTracks f (drop n s))) (none (hangs k i)) .list)))
     go true ih =
         let w : length (pre ++ (k ∷ i ∷ h ∷ l ∷ take n s)) ≡ length pre + 4 + length (take n s) = length-append pre (k ∷ i ∷ h ∷ l ∷ take n s) ∙ omega arith in
         one-more p (length pre) d (splitTracks f (drop n s) .list)
         (opened-there p (length pre) d (pre ++ (k ∷ i ∷ h ∷ l ∷ [])) (drop n s ++ post) (length-append pre (k ∷ i ∷ h ∷ l ∷ [])) (e ∙ headed)) (rw w at ih)
     go false ih = refl
 
--- the bytes between two places, and those before and trackInFront them
+-- the bytes between two places, and those before and inFront them
 cut-part : (p : List ℕ) (from to : ℕ) → p ≡ take from p ++ (part from to p ++ drop (to - from) (drop from p))
 cut-part p from to = sym (rw (take-append-drop (to - from) (drop from p)) (take-append-drop from p))
 
 module _ (p : List ℕ) where
-  between : (a : ℕ) → 20 ≤ a → a ≤ length p → materialViewIn p (materialOf 20 (sectionOf (part 20 a p) .items)) ≡ materialViewOfItems (sectionOf (part 20 a p) .items)
+  between : (a : ℕ) → 20 ≤ a → a ≤ length p → materialViewIn p (materialOf 20 (sectionOf (part 20 a p) .list)) ≡ materialViewOfItems (sectionOf (part 20 a p) .list)
   between a h k =
       let s = part 20 a p in
-      let is = sectionOf s .items in
+      let is = sectionOf s .list in
       let rest = drop (itemsSize is) s in
       let post = drop (a - 20) (drop 20 p) in
       let e : p ≡ take 20 p ++ (itemsBytes is ++ (rest ++ post))
       = cut-part p 20 a ∙ ap (λ (x : List ℕ). take 20 p ++ x) (ap (λ (x : List ℕ). x ++ post) (sym (section-front s)) ∙ append-assoc (itemsBytes is) rest post) in
       material-there p 20 is (take 20 p) (rest ++ post) (length-take-le 20 p (omega arith)) e
 
-  material-shown : (l : Layout) → Within (length p) l → materialViewIn p (materialOf 20 (sectionOf (materialIn p l) .items)) ≡ materialViewOfItems (sectionOf (materialIn p l) .items)
+  material-shown : (l : Layout) → Within (length p) l → materialViewIn p (materialOf 20 (sectionOf (materialIn p l) .list)) ≡ materialViewOfItems (sectionOf (materialIn p l) .list)
   unfolding sectionOf items.splitItems find materialViewIn materialOf materialViewOfItems heldOf
   material-shown (Both a e) w = between a (w .0) (omega (arith, w .1, w .2))
   material-shown (One a) w = between a (w .0) (w .1)

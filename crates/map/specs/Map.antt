@@ -72,7 +72,7 @@ unfoldable pub mapVerdict : List ℕ → Verdict
 mapVerdict p = pick (ltb (length p) 18) (bad 8 16) (pick (eqb (getD p 16 0) 0xE0) (sectionsVerdict p (layoutOf p)) (bad 7 16))
 
 unfoldable pub materialSays : List ℕ → Material
-materialSays p = materialOf 20 (sectionOf (materialIn p (layoutOf p)) .items)
+materialSays p = materialOf 20 (sectionOf (materialIn p (layoutOf p)) .list)
 
 -- the listed tracks, with their places
 unfoldable pub listedIn : List ℕ → List Placed

@@ -64,7 +64,7 @@ viewOfParts p =
 
 -- a track's items, by lengths alone
 unfoldable pub opened : Description → TrackParts
-opened d = record { typeByte = d .typeByte; id = d .id; items = sectionOf (d .items) .items }
+opened d = record { typeByte = d .typeByte; id = d .id; items = sectionOf (d .items) .list }
 
 -- the parts of a map packet, by lengths alone: the reserved bytes stand at 10 and at 17
 unfoldable pub partsOf : List ℕ → MapParts
@@ -72,7 +72,7 @@ partsOf p =
     record {
       spare = take 4 (drop 10 p);
       second = getD p 17 0;
-      material = sectionOf (materialIn p (layoutOf p)) .items;
+      material = sectionOf (materialIn p (layoutOf p)) .list;
       tracks = map opened (tracksOf (tracksIn p (layoutOf p)) .list);
     }
 

@@ -34,7 +34,7 @@ pub none-behind : (x : Found) → partOf x ≡ part.Absent → x ≡ missing
 none-behind missing e = refl
 none-behind (found p v) e = absurd (let z : _≡_ {A = ℕ} 0 1 = cc in omega arith)
 
-module _ (tag base : ℕ) (s : List ℕ) (q n : ℕ) (e : partOf (find tag base (sectionOf s .items)) ≡ part.At q n) where
+module _ (tag base : ℕ) (s : List ℕ) (q n : ℕ) (e : partOf (find tag base (sectionOf s .list)) ≡ part.At q n) where
   -- where a part stands in its section
   pub stands : (base + 2 ≤ q) × (q + n ≤ base + length s)
   stands =
@@ -43,7 +43,7 @@ module _ (tag base : ℕ) (s : List ℕ) (q n : ℕ) (e : partOf (find tag base 
       (r .0, omega (arith, r .1, b .long))
 
   -- four bytes are a number, and any other count is none
-  pub is-value : n ≡ 4 → value.Is (be s (q - base) 4) ≡ valueOf (find tag base (sectionOf s .items))
+  pub is-value : n ≡ 4 → value.Is (be s (q - base) 4) ≡ valueOf (find tag base (sectionOf s .list))
   unfolding valueOf
   is-value h =
       let b = behind _ q n e in
@@ -52,10 +52,10 @@ module _ (tag base : ℕ) (s : List ℕ) (q n : ℕ) (e : partOf (find tag base 
       let v : b .bytes ≡ take 4 (drop (q - base) s) = sym (r .2) ∙ rw l in
       sym (rw (b .was, eq-eqb _ _ l, v, be-take 4 (drop (q - base) s) 0 4 (omega arith), be-drop (q - base) s 0 4, add-zero))
 
-  pub no-value : (n ≡ 4 → ⊥) → value.Absent ≡ valueOf (find tag base (sectionOf s .items))
+  pub no-value : (n ≡ 4 → ⊥) → value.Absent ≡ valueOf (find tag base (sectionOf s .list))
   unfolding valueOf
   no-value h =
-      let b = behind (find tag base (sectionOf s .items)) q n e in
+      let b = behind (find tag base (sectionOf s .list)) q n e in
       sym (rw (b .was, ne-eqb (length (b .bytes)) 4 (λ l. h (sym (b .long) ∙ l))))
 
 pub nothing-value : (x : Found) → partOf x ≡ part.Absent → value.Absent ≡ valueOf x

@@ -55,7 +55,7 @@ pub fn bare(x: u8, mark: u8) -> u8
 // The number of a four-byte item, in a section that begins at place base of its packet.
 pub fn value_at(s: &[u8], base: usize, tag: u8) -> Value
     requires { ⌜ base + length (now s) < 2 ^ 64 ⌝ }
-    ensures { λ r. ⌜ r ≡ valueOf (find tag base (sectionOf (now (s .entry)) .items)) ⌝ }
+    ensures { λ r. ⌜ r ≡ valueOf (find tag base (sectionOf (now (s .entry)) .list)) ⌝ }
 {
     match map_items::found(s, base, tag) {
         Part::At(q, n) => {
@@ -132,7 +132,7 @@ fn code_of(tag: u8, n: u32) -> Code
 // The code of an item, in a section that begins at place base of its packet.
 pub fn code_at(s: &[u8], base: usize, tag: u8) -> Code
     requires { ⌜ base + length (now s) < 2 ^ 64 ⌝ }
-    ensures { λ r. ⌜ r ≡ codeOf tag (valueOf (find tag base (sectionOf (now (s .entry)) .items))) ⌝ }
+    ensures { λ r. ⌜ r ≡ codeOf tag (valueOf (find tag base (sectionOf (now (s .entry)) .list))) ⌝ }
 {
     match value_at(s, base, tag) {
         Value::Is(n) => code_of(tag, n),
@@ -153,7 +153,7 @@ pub fn is_null(name: Part) -> bool
 // The answer of a material section that begins at place base of its packet.
 pub fn material_says(s: &[u8], base: usize) -> Material
     requires { ⌜ base + length (now s) < 2 ^ 64 ⌝ }
-    ensures { λ r. ⌜ r ≡ materialOf base (sectionOf (now (s .entry)) .items) ⌝ }
+    ensures { λ r. ⌜ r ≡ materialOf base (sectionOf (now (s .entry)) .list) ⌝ }
 {
     let name = map_items::found(s, base, 0x40);
     let first = value_at(s, base, 0x41);
@@ -174,7 +174,7 @@ pub fn material_says(s: &[u8], base: usize) -> Material
 // The record of a track whose type and ID bytes are these, and whose items begin at place base of the packet.
 pub fn record(type_byte: u8, id: u8, s: &[u8], base: usize) -> Track
     requires { ⌜ base + length (now s) < 2 ^ 64 ⌝ }
-    ensures { λ r. ⌜ r ≡ trackOf «type_byte» id base (sectionOf (now (s .entry)) .items) ⌝ }
+    ensures { λ r. ⌜ r ≡ trackOf «type_byte» id base (sectionOf (now (s .entry)) .list) ⌝ }
 {
     let id = bare(id, 0xC0);
     let media_type = bare(type_byte, 0x80);

@@ -51,15 +51,15 @@ judge-anywhere section seen p q [] e = refl
 judge-anywhere section seen p q (i ∷ is) e = item-anywhere section seen p q i _ _ (λ z. judge-anywhere section z (p + 2 + length (i .value)) (q + 2 + length (i .value)) is) e
 
 -- an accepted section is whole, and its items are accepted
-pub verdict-accepted : (section : Section) (s : List ℕ) (p : ℕ) → verdictOf section s p ≡ Accepted → (judgeItems section [] p (sectionOf s .items) ≡ Accepted) × (sectionOf s .whole ≡ true)
+pub verdict-accepted : (section : Section) (s : List ℕ) (p : ℕ) → verdictOf section s p ≡ Accepted → (judgeItems section [] p (sectionOf s .list) ≡ Accepted) × (sectionOf s .end ≡ true)
 unfolding verdictOf
 verdict-accepted section s p e =
-    let b = both-accepted (judgeItems section [] p (sectionOf s .items)) (ending p (sectionOf s)) e in
-    (b .0, go (sectionOf s .whole) (b .1))
+    let b = both-accepted (judgeItems section [] p (sectionOf s .list)) (ending p (sectionOf s)) e in
+    (b .0, go (sectionOf s .end) (b .1))
   where
-    go : (b : Bool) → pick b Accepted (bad 8 (p + itemsSize (sectionOf s .items))) ≡ Accepted → b ≡ true
+    go : (b : Bool) → pick b Accepted (bad 8 (p + itemsSize (sectionOf s .list))) ≡ Accepted → b ≡ true
     go true e = refl
-    go false e = not-accepted 8 (p + itemsSize (sectionOf s .items)) e
+    go false e = not-accepted 8 (p + itemsSize (sectionOf s .list)) e
 
 -- items put together are judged as they are
 pub verdict-bytes : (section : Section) (is : List Item) (p : ℕ) → verdictOf section (itemsBytes is) p ≡ andThen (judgeItems section [] p is) Accepted

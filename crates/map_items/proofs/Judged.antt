@@ -10,7 +10,8 @@ use lib.Seq.{getD-set-same, getD-set-other}
 use lib.Dec.{eqb, ltb}
 use borrow.Author.Tests.{eq-eqb, ne-eqb, eqb-true, eqb-false, le-leb, lt-leb, ltb-true, ltb-false}
 use Rattle.plate.specs.Choice.{pick}
-use Rattle.map_items.specs.Items.{Item, Parts, itemInFront, splitItems, sectionOf, itemsSize}
+use Rattle.plate.specs.Ended.{inFront}
+use Rattle.map_items.specs.Items.{Item, Parts, splitItems, sectionOf, itemsSize}
 use Rattle.map_items.specs.Judge.{bad, andThen, formOf, isKnown, faultOf, countsAs, has, onItem, judgeItems, ending, judgeParts, verdictOf}
 use Rattle.map_items.specs.declared.Section.{Section}
 use Rattle.map_items.specs.declared.Section.the-variants.{Material, Track}
@@ -19,18 +20,18 @@ use Rattle.map_items.proofs.Split.{itemAt, value-length, split-done, sp
 
 -- one item more in front is one turn of the judge
 parts-turn : (section : Section) (seen : List ℕ) (p : ℕ) (i : Item) (rest : Parts)
-    → judgeParts section seen p (itemInFront i rest) ≡ onItem section seen p i (λ z. judgeParts section z (p + 2 + length (i .value)) rest)
+    → judgeParts section seen p (inFront i rest) ≡ onItem section seen p i (λ z. judgeParts section z (p + 2 + length (i .value)) rest)
 unfolding judgeItems itemsSize
 parts-turn section seen p i rest =
-    let e : p + (2 + length (i .value) + itemsSize (rest .items)) ≡ p + 2 + length (i .value) + itemsSize (rest .items) = omega arith in
+    let e : p + (2 + length (i .value) + itemsSize (rest .list)) ≡ p + 2 + length (i .value) + itemsSize (rest .list) = omega arith in
     rw e (go (eqb (faultOf (formOf section (i .tag)) (i .value)) 0) (isKnown (formOf section (i .tag))) (has (countsAs (i .tag)) seen))
   where
     go : (a b d : Bool)
         → andThen
         (pick a
         (pick b
-        (pick d (bad 10 p) (judgeItems section (countsAs (i .tag) ∷ seen) (p + 2 + length (i .value)) (rest .items)))
-        (judgeItems section seen (p + 2 + length (i .value)) (rest .items)))
+        (pick d (bad 10 p) (judgeItems section (countsAs (i .tag) ∷ seen) (p + 2 + length (i .value)) (rest .list)))
+        (judgeItems section seen (p + 2 + length (i .value)) (rest .list)))
         (bad (faultOf (formOf section (i .tag)) (i .value)) p)) (ending (p + 2 + length (i .value)) rest)
         ≡ pick a
         (pick b (pick d (bad 10 p) (judgeParts section (countsAs (i .tag) ∷ seen) (p + 2 + length (i .value)) rest)) (judgeParts section seen (p + 2 + length (i .value)) rest))

@@ -19,35 +19,35 @@ use Rattle.map_items.proofs.Split.{value-length, split-done, split-shor
 pub record Left (tag : ℕ) (s : List ℕ) (base at : ℕ) : Type 0 where
   pub fuel : ℕ
   pub enough : length s - at < fuel
-  pub same : find tag base (sectionOf s .items) ≡ find tag (base + at) (splitItems fuel (drop at s) .items)
+  pub same : find tag base (sectionOf s .list) ≡ find tag (base + at) (splitItems fuel (drop at s) .list)
 
 pub start : (tag : ℕ) (s : List ℕ) (base : ℕ) → Left tag s base 0
 unfolding sectionOf
 start tag s base = record { fuel = suc (length s); enough = omega arith; same = rw add-zero }
 
 module _ (tag : ℕ) (s : List ℕ) (base at : ℕ) (l : Left tag s base at) where
-  pub on-done : length s ≤ at → Absent ≡ partOf (find tag base (sectionOf s .items))
+  pub on-done : length s ≤ at → Absent ≡ partOf (find tag base (sectionOf s .list))
   unfolding find
   on-done h = sym (rw (l .same, split-done s at (l .fuel) (omega (arith, l .enough)) h))
 
-  pub on-short : at < length s → length s - at < 2 → Absent ≡ partOf (find tag base (sectionOf s .items))
+  pub on-short : at < length s → length s - at < 2 → Absent ≡ partOf (find tag base (sectionOf s .list))
   unfolding find
   on-short h k = sym (rw (l .same, split-short s at (l .fuel) (omega (arith, l .enough)) (omega arith)))
 
   module _ (h : 2 ≤ length s - at) (n : ℕ) (e : n ≡ getD s (at + 1) 0) where
-    pub on-over : length s - at - 2 < n → Absent ≡ partOf (find tag base (sectionOf s .items))
+    pub on-over : length s - at - 2 < n → Absent ≡ partOf (find tag base (sectionOf s .list))
     unfolding find
     on-over k = sym (rw (l .same, split-over s at (l .fuel) (omega (arith, l .enough)) n h e k))
 
     module _ (k : n ≤ length s - at - 2) where
-      turn : find tag base (sectionOf s .items)
-          ≡ pick (eqb (getD s at 0) tag) (found (base + at + 2) (take n (drop (at + 2) s))) (find tag (base + (at + 2 + n)) (splitItems (l .fuel - 1) (drop (at + 2 + n) s) .items))
+      turn : find tag base (sectionOf s .list)
+          ≡ pick (eqb (getD s at 0) tag) (found (base + at + 2) (take n (drop (at + 2) s))) (find tag (base + (at + 2 + n)) (splitItems (l .fuel - 1) (drop (at + 2 + n) s) .list))
       unfolding find
       turn =
           let a : base + at + 2 + n ≡ base + (at + 2 + n) = omega arith in
           l .same ∙ rw (split-item s at (l .fuel) (omega (arith, l .enough)) n h e k, value-length s at n (omega arith), a)
 
-      pub on-found : getD s at 0 ≡ tag → At (base + at + 2) n ≡ partOf (find tag base (sectionOf s .items))
+      pub on-found : getD s at 0 ≡ tag → At (base + at + 2) n ≡ partOf (find tag base (sectionOf s .list))
       on-found q = sym (rw (turn, eq-eqb _ _ q, value-length s at n (omega arith)))
 
       pub on-next : (getD s at 0 ≡ tag → ⊥) → Left tag s base (at + 2 + n)
@@ -88,10 +88,10 @@ find-stands tag (i ∷ is) pre post q v e = go (eqb (i .tag) tag) e (find-stands
         record { low = omega (arith, r .low); high = omega (arith, r .high); bytes = rw s (r .bytes) }
 
 -- what is found in a section that begins at place base stands in it
-pub section-stands : (tag base : ℕ) (s : List ℕ) (q : ℕ) (v : List ℕ) → find tag base (sectionOf s .items) ≡ found q v
+pub section-stands : (tag base : ℕ) (s : List ℕ) (q : ℕ) (v : List ℕ) → find tag base (sectionOf s .list) ≡ found q v
     → (base + 2 ≤ q) × (q + length v ≤ base + length s) × (take (length v) (drop (q - base) s) ≡ v)
 section-stands tag base s q v e =
-    let is = sectionOf s .items in
+    let is = sectionOf s .list in
     let pre : List ℕ = replicate base 0 in
     let post = drop (itemsSize is) s in
     let l : length pre ≡ base = length-replicate base 0 in

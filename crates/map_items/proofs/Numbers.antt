@@ -57,4 +57,4 @@ items-own c seen p (i ∷ is) =
 
 pub section-own : (c : Section) (s : List ℕ) (p : ℕ) → Own (verdictOf c s p)
 unfolding verdictOf
-section-own c s p = both (judgeItems c [] p (sectionOf s .items)) (ending p (sectionOf s)) (items-own c [] p (sectionOf s .items)) (either Own (sectionOf s .whole) tt (omega arith, omega arith))
+section-own c s p = both (judgeItems c [] p (sectionOf s .list)) (ending p (sectionOf s)) (items-own c [] p (sectionOf s .list)) (either Own (sectionOf s .end) tt (omega arith, omega arith))

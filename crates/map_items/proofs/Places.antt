@@ -48,18 +48,18 @@ items-place section seen p (i ∷ is) r e =
     go true false d e ih = omega (arith, ih _ e)
     go false b d e ih = omega (arith, at-place (faultOf (formOf section (i .tag)) (i .value)) p r e)
 
-pub items-size : (s : List ℕ) → itemsSize (sectionOf s .items) ≤ length s
+pub items-size : (s : List ℕ) → itemsSize (sectionOf s .list) ≤ length s
 items-size s =
     let f = ap length (section-front s) in
-    omega (arith, length-append (itemsBytes (sectionOf s .items)) (drop (itemsSize (sectionOf s .items)) s), length-bytes (sectionOf s .items))
+    omega (arith, length-append (itemsBytes (sectionOf s .list)) (drop (itemsSize (sectionOf s .list)) s), length-bytes (sectionOf s .list))
 
 pub place-within : (section : Section) (s : List ℕ) (base : ℕ) (r : Refusal) → verdictOf section s base ≡ Refused r → r .place ≤ base + length s
 unfolding verdictOf
 place-within section s base r e =
-    either-part (judgeItems section [] base (sectionOf s .items)) (ending base (sectionOf s)) r e
-    (λ f. let a = items-place section [] base (sectionOf s .items) r f in omega (arith, items-size s))
-    (λ f. go (sectionOf s .whole) f)
+    either-part (judgeItems section [] base (sectionOf s .list)) (ending base (sectionOf s)) r e
+    (λ f. let a = items-place section [] base (sectionOf s .list) r f in omega (arith, items-size s))
+    (λ f. go (sectionOf s .end) f)
   where
-    go : (b : Bool) → pick b Accepted (bad 8 (base + itemsSize (sectionOf s .items))) ≡ Refused r → r .place ≤ base + length s
+    go : (b : Bool) → pick b Accepted (bad 8 (base + itemsSize (sectionOf s .list))) ≡ Refused r → r .place ≤ base + length s
     go true f = not-refused r f
-    go false f = omega (arith, items-size s, at-place 8 (base + itemsSize (sectionOf s .items)) r f)
+    go false f = omega (arith, items-size s, at-place 8 (base + itemsSize (sectionOf s .list)) r f)

@@ -9,14 +9,15 @@ use lib.Seq.{drop-cons, drop-drop, length-take-le, take-append-seam, drop-append
 use lib.Dec.{leb}
 use borrow.Author.Tests.{le-leb, lt-leb, leb-true}
 use Rattle.plate.specs.Choice.{pick}
-use Rattle.map_items.specs.Items.{Item, Parts, itemInFront, splitItems, sectionOf, itemsSize, itemsBytes}
+use Rattle.plate.specs.Ended.{inFront, none}
+use Rattle.map_items.specs.Items.{Item, Parts, splitItems, sectionOf, itemsSize, itemsBytes}
 
 -- no item, at a clean end and at one that is not
 abbrev pub clean : Parts
-clean = record { items = []; whole = true }
+clean = none true
 
 abbrev pub torn : Parts
-torn = record { items = []; whole = false }
+torn = none false
 
 -- the item at a place
 abbrev pub itemAt : List ℕ → ℕ → ℕ → Item
@@ -45,13 +46,13 @@ module _ (s : List ℕ) (at f : ℕ) (h : zero < f) where
       go (suc f) h = refl
 
   split-two : (n : ℕ) → at + 1 < length s → n ≡ getD s (at + 1) 0
-      → splitItems f (drop at s) ≡ pick (leb n (length s - (at + 2))) (itemInFront (itemAt s at n) (splitItems (f - 1) (drop (at + 2 + n) s))) torn
+      → splitItems f (drop at s) ≡ pick (leb n (length s - (at + 2))) (inFront (itemAt s at n) (splitItems (f - 1) (drop (at + 2 + n) s))) torn
   unfolding splitItems
   split-two n l e = rw (drop-cons s at 0 (omega arith), drop-cons s (suc at) 0 (omega arith)) (go f h)
     where
       go : (f : ℕ) → zero < f
           → splitItems f (getD s at 0 ∷ getD s (suc at) 0 ∷ drop (suc (suc at)) s)
-          ≡ pick (leb n (length s - (at + 2))) (itemInFront (itemAt s at n) (splitItems (f - 1) (drop (at + 2 + n) s))) torn
+          ≡ pick (leb n (length s - (at + 2))) (inFront (itemAt s at n) (splitItems (f - 1) (drop (at + 2 + n) s))) torn
       go zero h = absurd (omega arith)
       go (suc f) h =
           let a : suc f - 1 ≡ f = omega arith in
@@ -63,11 +64,11 @@ module _ (s : List ℕ) (at f : ℕ) (h : zero < f) where
     pub split-over : length s - at - 2 < n → splitItems f (drop at s) ≡ torn
     split-over k = split-two n (omega arith) e ∙ rw (lt-leb n (length s - (at + 2)) (omega arith))
 
-    pub split-item : n ≤ length s - at - 2 → splitItems f (drop at s) ≡ itemInFront (itemAt s at n) (splitItems (f - 1) (drop (at + 2 + n) s))
+    pub split-item : n ≤ length s - at - 2 → splitItems f (drop at s) ≡ inFront (itemAt s at n) (splitItems (f - 1) (drop (at + 2 + n) s))
     split-item k = split-two n (omega arith) e ∙ rw (le-leb n (length s - (at + 2)) (omega arith))
 
 -- items put together come apart as they were
-pub split-bytes : (is : List Item) (f : ℕ) → length (itemsBytes is) < f → splitItems f (itemsBytes is) ≡ record { items = is; whole = true }
+pub split-bytes : (is : List Item) (f : ℕ) → length (itemsBytes is) < f → splitItems f (itemsBytes is) ≡ record { list = is; end = true }
 unfolding splitItems itemsBytes
 split-bytes is zero h = absurd (omega arith)
 split-bytes [] (suc f) h = refl
@@ -80,7 +81,7 @@ split-bytes (i ∷ is) (suc f) h =
       split-bytes is f (omega (arith, length-append v (itemsBytes is))),
     )
 
-pub section-bytes : (is : List Item) → sectionOf (itemsBytes is) ≡ record { items = is; whole = true }
+pub section-bytes : (is : List Item) → sectionOf (itemsBytes is) ≡ record { list = is; end = true }
 unfolding sectionOf
 section-bytes is = split-bytes is (suc (length (itemsBytes is))) (omega arith)
 
@@ -90,7 +91,7 @@ unfolding itemsBytes itemsSize
 length-bytes [] = refl
 length-bytes (i ∷ is) = omega (arith, length-append (i .value) (itemsBytes is), length-bytes is)
 
-bytes-split : (f : ℕ) (s : List ℕ) → length s < f → splitItems f s .whole ≡ true → itemsBytes (splitItems f s .items) ≡ s
+bytes-split : (f : ℕ) (s : List ℕ) → length s < f → splitItems f s .end ≡ true → itemsBytes (splitItems f s .list) ≡ s
 unfolding splitItems itemsBytes
 bytes-split zero s h w = absurd (omega arith)
 bytes-split (suc f) [] h w = refl
@@ -98,35 +99,35 @@ bytes-split (suc f) (t ∷ []) h w = absurd (let z : _≡_ {A = ℕ} 0 1 = cc in
 bytes-split (suc f) (t ∷ n ∷ s) h w = go (leb n (length s)) refl (λ v. bytes-split f (drop n s) (simp length-drop (omega arith)) v) w
   where
     go : (b : Bool) → leb n (length s) ≡ b
-        → (splitItems f (drop n s) .whole ≡ true → itemsBytes (splitItems f (drop n s) .items) ≡ drop n s)
-        → pick b (itemInFront (record { tag = t; value = take n s }) (splitItems f (drop n s))) torn .whole ≡ true
-        → itemsBytes (pick b (itemInFront (record { tag = t; value = take n s }) (splitItems f (drop n s))) torn .items) ≡ t ∷ n ∷ s
+        → (splitItems f (drop n s) .end ≡ true → itemsBytes (splitItems f (drop n s) .list) ≡ drop n s)
+        → pick b (inFront (record { tag = t; value = take n s }) (splitItems f (drop n s))) torn .end ≡ true
+        → itemsBytes (pick b (inFront (record { tag = t; value = take n s }) (splitItems f (drop n s))) torn .list) ≡ t ∷ n ∷ s
     go true q rest w = rw (length-take-le n s (leb-true _ _ q), rest w, take-append-drop)
     go false q rest w = absurd (let z : _≡_ {A = ℕ} 0 1 = cc in omega arith)
 
-pub section-whole : (s : List ℕ) → sectionOf s .whole ≡ true → itemsBytes (sectionOf s .items) ≡ s
+pub section-whole : (s : List ℕ) → sectionOf s .end ≡ true → itemsBytes (sectionOf s .list) ≡ s
 unfolding sectionOf
 section-whole s w = bytes-split (suc (length s)) s (omega arith) w
 
 -- the items of a section, whole or not, are the bytes at its front
-split-front : (f : ℕ) (s : List ℕ) → itemsBytes (splitItems f s .items) ++ drop (itemsSize (splitItems f s .items)) s ≡ s
+split-front : (f : ℕ) (s : List ℕ) → itemsBytes (splitItems f s .list) ++ drop (itemsSize (splitItems f s .list)) s ≡ s
 unfolding splitItems itemsBytes itemsSize
 split-front zero s = refl
 split-front (suc f) [] = refl
 split-front (suc f) (t ∷ []) = refl
 split-front (suc f) (t ∷ n ∷ s) = go (leb n (length s)) refl (split-front f (drop n s))
   where
-    go : (b : Bool) → leb n (length s) ≡ b → itemsBytes (splitItems f (drop n s) .items) ++ drop (itemsSize (splitItems f (drop n s) .items)) (drop n s) ≡ drop n s
-        → itemsBytes (pick b (itemInFront (record { tag = t; value = take n s }) (splitItems f (drop n s))) torn .items)
-        ++ drop (itemsSize (pick b (itemInFront (record { tag = t; value = take n s }) (splitItems f (drop n s))) torn .items)) (t ∷ n ∷ s)
+    go : (b : Bool) → leb n (length s) ≡ b → itemsBytes (splitItems f (drop n s) .list) ++ drop (itemsSize (splitItems f (drop n s) .list)) (drop n s) ≡ drop n s
+        → itemsBytes (pick b (inFront (record { tag = t; value = take n s }) (splitItems f (drop n s))) torn .list)
+        ++ drop (itemsSize (pick b (inFront (record { tag = t; value = take n s }) (splitItems f (drop n s))) torn .list)) (t ∷ n ∷ s)
         ≡ t ∷ n ∷ s
     go true q rest =
-        let z = itemsSize (splitItems f (drop n s) .items) in
+        let z = itemsSize (splitItems f (drop n s) .list) in
         let a : 2 + n + z ≡ suc (suc (n + z)) = omega arith in
-        let b = itemsBytes (splitItems f (drop n s) .items) in
+        let b = itemsBytes (splitItems f (drop n s) .list) in
         rw (length-take-le n s (leb-true _ _ q), a, ← drop-drop z n s, append-assoc (take n s) b (drop z (drop n s)), rest, take-append-drop)
     go false q rest = refl
 
-pub section-front : (s : List ℕ) → itemsBytes (sectionOf s .items) ++ drop (itemsSize (sectionOf s .items)) s ≡ s
+pub section-front : (s : List ℕ) → itemsBytes (sectionOf s .list) ++ drop (itemsSize (sectionOf s .list)) s ≡ s
 unfolding sectionOf
 section-front s = split-front (suc (length s)) s

@@ -5,6 +5,7 @@ use mathlib.Core.List.{List, [], _∷_, _++_}
 use lib.ListN.{length, take, drop}
 use lib.Dec.{leb}
 use Rattle.plate.specs.Choice.{pick}
+use Rattle.plate.specs.Ended.{Ended, none, inFront}
 
 -- a tag and the bytes that its length byte counts
 pub record Item : Type 0 where
@@ -12,21 +13,16 @@ pub record Item : Type 0 where
   pub value : List ℕ
 
 -- a section taken apart: its items, and whether its bytes end where an item ends
-pub record Parts : Type 0 where
-  pub items : List Item
-  pub whole : Bool
-
--- one item more in front
-abbrev pub itemInFront : Item → Parts → Parts
-itemInFront i p = record { items = i ∷ p .items; whole = p .whole }
+abbrev pub Parts : Type 0
+Parts = Ended Item Bool
 
 -- f is more than the items that can follow
 unfoldable pub splitItems : ℕ → List ℕ → Parts
-splitItems zero s = record { items = []; whole = false }
-splitItems (suc f) [] = record { items = []; whole = true }
-splitItems (suc f) (t ∷ []) = record { items = []; whole = false }
+splitItems zero s = none false
+splitItems (suc f) [] = none true
+splitItems (suc f) (t ∷ []) = none false
 splitItems (suc f) (t ∷ n ∷ s) =
-    pick (leb n (length s)) (itemInFront (record { tag = t; value = take n s }) (splitItems f (drop n s))) (record { items = []; whole = false })
+    pick (leb n (length s)) (inFront (record { tag = t; value = take n s }) (splitItems f (drop n s))) (none false)
 
 unfoldable pub sectionOf : List ℕ → Parts
 sectionOf s = splitItems (suc (length s)) s

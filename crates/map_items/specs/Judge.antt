@@ -68,10 +68,10 @@ judgeItems section seen p (i ∷ is) = onItem section seen p i (λ now-seen. jud
 
 -- 8 at the item that passes the section, if one does
 abbrev pub ending : ℕ → Parts → Verdict
-ending p s = pick (s .whole) Accepted (bad 8 (p + itemsSize (s .items)))
+ending p s = pick (s .end) Accepted (bad 8 (p + itemsSize (s .list)))
 
 abbrev pub judgeParts : Section → List ℕ → ℕ → Parts → Verdict
-judgeParts section seen p s = andThen (judgeItems section seen p (s .items)) (ending p s)
+judgeParts section seen p s = andThen (judgeItems section seen p (s .list)) (ending p s)
 
 -- a section's bytes from place p on
 unfoldable pub verdictOf : Section → List ℕ → ℕ → Verdict

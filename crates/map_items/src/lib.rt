@@ -169,7 +169,7 @@ pub fn judge(section: Section, s: &[u8], base: usize) -> Verdict
 // The first item of a tag in a section that begins at place base of its packet: where its bytes stand, and how many.
 pub fn found(s: &[u8], base: usize, tag: u8) -> Part
     requires { ⌜ base + length (now s) < 2 ^ 64 ⌝ }
-    ensures { λ r. ⌜ r ≡ partOf (find tag base (sectionOf (now (s .entry)) .items)) ⌝ }
+    ensures { λ r. ⌜ r ≡ partOf (find tag base (sectionOf (now (s .entry)) .list)) ⌝ }
 {
     let mut at: usize = 0;
     while at < s.len() {

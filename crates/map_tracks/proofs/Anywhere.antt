@@ -20,9 +20,9 @@ pub track-anywhere : (typeByte : ℕ) (s : List ℕ) (p q : ℕ) → trackVerdic
 unfolding trackVerdict verdictOf
 track-anywhere typeByte s p q e =
     let a = verdict-accepted section.Track s p (both-accepted (verdictOf section.Track s p) (trackOver typeByte s p) e .0) in
-    rw (judge-anywhere section.Track [] p q (sectionOf s .items) (a .0), a .1)
+    rw (judge-anywhere section.Track [] p q (sectionOf s .list) (a .0), a .1)
 
-pub track-whole : (typeByte : ℕ) (s : List ℕ) (p : ℕ) → trackVerdict typeByte s p ≡ Accepted → sectionOf s .whole ≡ true
+pub track-whole : (typeByte : ℕ) (s : List ℕ) (p : ℕ) → trackVerdict typeByte s p ≡ Accepted → sectionOf s .end ≡ true
 unfolding trackVerdict
 track-whole typeByte s p e = verdict-accepted section.Track s p (both-accepted (verdictOf section.Track s p) (trackOver typeByte s p) e .0) .1
 

@@ -112,7 +112,7 @@ module _ (s : List ℕ) (base at n : ℕ) (h : n ≤ length s - at - 4) (named :
   pass-listed z e ds = rw (listed-first (trackAt s at n) (base + at) ds e, ne-eqb _ _ z, next)
 
   pub here : keyOf named before (getD s (at + 1) 0) ≡ wanted → isListed (trackAt s at n) ≡ true → (ds : List Description)
-      → keyedOf named before wanted (listed (base + at) (trackAt s at n ∷ ds)) ≡ Record (trackOf (getD s at 0) (getD s (at + 1) 0) (base + (at + 4)) (sectionOf (take n (drop (at + 4) s)) .items))
+      → keyedOf named before wanted (listed (base + at) (trackAt s at n ∷ ds)) ≡ Record (trackOf (getD s at 0) (getD s (at + 1) 0) (base + (at + 4)) (sectionOf (take n (drop (at + 4) s)) .list))
   unfolding keyedOf recordOf
   here z e ds =
       let a : base + at + 4 ≡ base + (at + 4) = omega arith in

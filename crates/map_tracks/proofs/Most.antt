@@ -8,10 +8,11 @@ use lib.ListN.{length, take, drop}
 use lib.Dec.{eqb, leb, ltb}
 use borrow.Author.Tests.{eqb-true, eqb-false, ne-eqb, ltb-true, ltb-false}
 use Rattle.plate.specs.Choice.{pick}
+use Rattle.plate.specs.Ended.{none, inFront}
 use Rattle.number.proofs.Bytes.{AllBytes, bytes-drop}
 use Rattle.map_items.specs.Judge.{has}
 use Rattle.map_items.specs.declared.Verdict.the-variants.{Accepted}
-use Rattle.map_tracks.specs.Tracks.{Description, End, hangs, none, trackInFront, splitTracks, tracksOf, judgeTracks, tracksVerdict, isListed, listed}
+use Rattle.map_tracks.specs.Tracks.{Description, End, hangs, splitTracks, tracksOf, judgeTracks, tracksVerdict, isListed, listed}
 use Rattle.map_tracks.proofs.Anywhere.{passed}
 
 -- ---- different numbers from a first one on, under a bound: there are no more of them than numbers
@@ -122,7 +123,7 @@ split-ids (suc f) (k ∷ i ∷ m ∷ []) b = tt
 split-ids (suc f) (k ∷ i ∷ m ∷ l ∷ s) b = go (leb (m * 256 + l) (length s)) (split-ids f (drop (m * 256 + l) s) (bytes-drop (m * 256 + l) s (b .1 .1 .1 .1)))
   where
     go : (t : Bool) → ByteIds (splitTracks f (drop (m * 256 + l) s) .list)
-        → ByteIds (pick t (trackInFront (record { typeByte = k; id = i; items = take (m * 256 + l) s }) (splitTracks f (drop (m * 256 + l) s))) (none (hangs k i)) .list)
+        → ByteIds (pick t (inFront (record { typeByte = k; id = i; items = take (m * 256 + l) s }) (splitTracks f (drop (m * 256 + l) s))) (none (hangs k i)) .list)
     go true r = (b .1 .0, r)
     go false r = tt
 

@@ -19,7 +19,7 @@ use Rattle.map_tracks.specs.declared.Kth.the-variants.{Record}
 use Rattle.map_tracks.proofs.Split.{section-size}
 
 -- the name of a record is the item 4C
-named : (x : Placed) → partOf (find 0x4C (x .at + 4) (sectionOf (x .track .items) .items)) ≡ recordOf x .name
+named : (x : Placed) → partOf (find 0x4C (x .at + 4) (sectionOf (x .track .items) .list)) ≡ recordOf x .name
 unfolding recordOf trackOf
 named x = refl
 

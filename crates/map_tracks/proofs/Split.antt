@@ -9,10 +9,11 @@ use lib.Seq.{drop-cons, drop-drop, length-take-le, take-append-seam, drop-append
 use lib.Dec.{leb}
 use borrow.Author.Tests.{le-leb, lt-leb, leb-true}
 use Rattle.plate.specs.Choice.{pick}
+use Rattle.plate.specs.Ended.{none, inFront}
 use Rattle.number.specs.Number.{be, beBytes}
 use Rattle.number.proofs.Laws.{length-beBytes}
 use Rattle.number.proofs.Bytes.{AllBytes, bytes-drop}
-use Rattle.map_tracks.specs.Tracks.{Description, over, short, hangs, none, trackInFront, splitTracks, descriptionsSize, descriptionsBytes, tracksOf}
+use Rattle.map_tracks.specs.Tracks.{Description, over, short, hangs, splitTracks, descriptionsSize, descriptionsBytes, tracksOf}
 use mathlib.Core.Bool.{Bool, true, false}
 
 -- the track at a place
@@ -50,14 +51,14 @@ module _ (s : List ℕ) (at f : ℕ) (h : zero < f) where
       go (k ∷ i ∷ m ∷ n ∷ r) (suc f) h a b = absurd (omega arith)
 
   module _ (n : ℕ) (l : 4 ≤ length s - at) (e : n ≡ be s (at + 2) 2) where
-    split-four : splitTracks f (drop at s) ≡ pick (leb n (length s - (at + 4))) (trackInFront (trackAt s at n) (splitTracks (f - 1) (drop (at + 4 + n) s))) (none (hangs (getD s at 0) (getD s (at + 1) 0)))
+    split-four : splitTracks f (drop at s) ≡ pick (leb n (length s - (at + 4))) (inFront (trackAt s at n) (splitTracks (f - 1) (drop (at + 4 + n) s))) (none (hangs (getD s at 0) (getD s (at + 1) 0)))
     unfolding splitTracks
     split-four =
         rw (drop-cons s at 0 (omega arith), drop-cons s (suc at) 0 (omega arith), drop-cons s (suc (suc at)) 0 (omega arith), drop-cons s (suc (suc (suc at))) 0 (omega arith)) (go f h)
       where
         go : (f : ℕ) → zero < f
             → splitTracks f (getD s at 0 ∷ getD s (suc at) 0 ∷ getD s (suc (suc at)) 0 ∷ getD s (suc (suc (suc at))) 0 ∷ drop (suc (suc (suc (suc at)))) s)
-            ≡ pick (leb n (length s - (at + 4))) (trackInFront (trackAt s at n) (splitTracks (f - 1) (drop (at + 4 + n) s))) (none (hangs (getD s at 0) (getD s (at + 1) 0)))
+            ≡ pick (leb n (length s - (at + 4))) (inFront (trackAt s at n) (splitTracks (f - 1) (drop (at + 4 + n) s))) (none (hangs (getD s at 0) (getD s (at + 1) 0)))
         go zero h = absurd (omega arith)
         go (suc f) h =
             let a : suc f - 1 ≡ f = omega arith in
@@ -71,7 +72,7 @@ module _ (s : List ℕ) (at f : ℕ) (h : zero < f) where
     pub split-over : length s - at - 4 < n → splitTracks f (drop at s) ≡ none (hangs (getD s at 0) (getD s (at + 1) 0))
     split-over k = split-four ∙ rw (lt-leb n (length s - (at + 4)) (omega arith))
 
-    pub split-track : n ≤ length s - at - 4 → splitTracks f (drop at s) ≡ trackInFront (trackAt s at n) (splitTracks (f - 1) (drop (at + 4 + n) s))
+    pub split-track : n ≤ length s - at - 4 → splitTracks f (drop at s) ≡ inFront (trackAt s at n) (splitTracks (f - 1) (drop (at + 4 + n) s))
     split-track k = split-four ∙ rw (le-leb n (length s - (at + 4)) (omega arith))
 
 -- the tracks of a section take no more bytes than it has
@@ -85,7 +86,7 @@ split-size (suc f) (k ∷ i ∷ h ∷ []) = omega arith
 split-size (suc f) (k ∷ i ∷ h ∷ l ∷ s) = go (leb (h * 256 + l) (length s)) refl (split-size f (drop (h * 256 + l) s))
   where
     go : (b : Bool) → leb (h * 256 + l) (length s) ≡ b → descriptionsSize (splitTracks f (drop (h * 256 + l) s) .list) ≤ length (drop (h * 256 + l) s)
-        → descriptionsSize (pick b (trackInFront (record { typeByte = k; id = i; items = take (h * 256 + l) s }) (splitTracks f (drop (h * 256 + l) s))) (none (hangs k i)) .list)
+        → descriptionsSize (pick b (inFront (record { typeByte = k; id = i; items = take (h * 256 + l) s }) (splitTracks f (drop (h * 256 + l) s))) (none (hangs k i)) .list)
         ≤ length (k ∷ i ∷ h ∷ l ∷ s)
     go true q r = omega (arith, length-take-le (h * 256 + l) s (leb-true _ _ q), length-drop (h * 256 + l) s, leb-true)
     go false q r = omega arith
@@ -138,8 +139,8 @@ bytes-split (suc f) (k ∷ i ∷ m ∷ l ∷ s) b h e =
     d = record { typeByte = k; id = i; items = take n s }
 
     go : (t : Bool) → leb n (length s) ≡ t → (splitTracks f (drop n s) .end ≡ over → descriptionsBytes (splitTracks f (drop n s) .list) ≡ drop n s)
-        → pick t (trackInFront d (splitTracks f (drop n s))) (none (hangs k i)) .end ≡ over
-        → descriptionsBytes (pick t (trackInFront d (splitTracks f (drop n s))) (none (hangs k i)) .list) ≡ k ∷ i ∷ m ∷ l ∷ s
+        → pick t (inFront d (splitTracks f (drop n s))) (none (hangs k i)) .end ≡ over
+        → descriptionsBytes (pick t (inFront d (splitTracks f (drop n s))) (none (hangs k i)) .list) ≡ k ∷ i ∷ m ∷ l ∷ s
     go true q rest w =
         let r = descriptionsBytes (splitTracks f (drop n s) .list) in
         let x : n / 256 % 256 ≡ m = omega (arith, b .1 .1 .0, b .1 .1 .1 .0) in

@@ -5,6 +5,7 @@ use mathlib.Core.List.{List, [], _∷_, _++_}
 use lib.ListN.{length, take, drop, set}
 use lib.Dec.{ltb, leb, eqb}
 use Rattle.plate.specs.Choice.{pick}
+use Rattle.plate.specs.Ended.{Ended, none, inFront}
 use Rattle.number.specs.Number.{beBytes}
 use Rattle.media_type.specs.MediaType.{knownType}
 use Rattle.map_items.specs.Items.{sectionOf}
@@ -29,16 +30,8 @@ pub data End : Type 0 where
   short : End
   hangs : ℕ → ℕ → End
 
-pub record Descriptions : Type 0 where
-  pub list : List Description
-  pub end : End
-
-abbrev pub none : End → Descriptions
-none e = record { list = []; end = e }
-
--- one track more in front
-abbrev pub trackInFront : Description → Descriptions → Descriptions
-trackInFront d ds = record { list = d ∷ ds .list; end = ds .end }
+abbrev pub Descriptions : Type 0
+Descriptions = Ended Description End
 
 -- type, ID, a 16-bit length and that many bytes; f is more than the tracks that can follow
 unfoldable pub splitTracks : ℕ → List ℕ → Descriptions
@@ -49,7 +42,7 @@ splitTracks (suc f) (k ∷ i ∷ []) = none short
 splitTracks (suc f) (k ∷ i ∷ h ∷ []) = none short
 splitTracks (suc f) (k ∷ i ∷ h ∷ l ∷ s) =
     pick (leb (h * 256 + l) (length s))
-    (trackInFront (record { typeByte = k; id = i; items = take (h * 256 + l) s }) (splitTracks f (drop (h * 256 + l) s)))
+    (inFront (record { typeByte = k; id = i; items = take (h * 256 + l) s }) (splitTracks f (drop (h * 256 + l) s)))
     (none (hangs k i))
 
 unfoldable pub tracksOf : List ℕ → Descriptions
@@ -83,7 +76,7 @@ endVerdict p over = Accepted
 endVerdict p short = bad 8 p
 endVerdict p (hangs k i) = onBytes k i p (bad 8 p)
 
--- tracks from place p on, trackInFront tracks of these IDs: 12, 10 for an ID seen before, listed or not, then the items
+-- tracks from place p on, inFront tracks of these IDs: 12, 10 for an ID seen before, listed or not, then the items
 unfoldable pub judgeTracks : List ℕ → ℕ → List Description → End → Verdict
 judgeTracks ids p [] e = endVerdict p e
 judgeTracks ids p (d ∷ ds) e =
@@ -111,7 +104,7 @@ listed p (d ∷ ds) =
 
 -- the record of a track
 unfoldable pub recordOf : Placed → Track
-recordOf x = trackOf (x .track .typeByte) (x .track .id) (x .at + 4) (sectionOf (x .track .items) .items)
+recordOf x = trackOf (x .track .typeByte) (x .track .id) (x .at + 4) (sectionOf (x .track .items) .list)
 
 -- the record of the k-th, from 0
 unfoldable pub kthOf : ℕ → List Placed → Kth

@@ -7,6 +7,7 @@ use native.Mathlib.Omega.{arith}
 use lib.ListN.{length, getD, replicate}
 use lib.Dec.{eqb, ltb}
 use Rattle.plate.specs.Choice.{pick}
+use Rattle.plate.specs.Ended.{none}
 use Rattle.plate.specs.Plate.{refusal}
 use Rattle.piece.specs.Piece.{pieceAt}
 use Rattle.piece.specs.declared.PieceAnswer.{PieceAnswer}
@@ -14,7 +15,7 @@ use Rattle.piece.specs.declared.PieceAnswer.the-variants as piece
 use Rattle.order.specs.Order.{started, misplaced, overdue, unmapped, progressAfter, ending, stepOf}
 use Rattle.order.specs.declared.Progress.{Progress}
 use Rattle.order.specs.declared.Step.the-variants as step
-use Rattle.stream.specs.Stream.{Packets, none, closed, runsOut, typesAfter, onPiece, packetsFrom, packets, onStep, judgePackets, checkOf}
+use Rattle.stream.specs.Stream.{Packets, closed, runsOut, typesAfter, onPiece, packetsFrom, packets, onStep, judgePackets, checkOf}
 use Rattle.stream.specs.declared.CheckAnswer.the-variants as check
 
 -- a refusal is no number of packets

@@ -8,6 +8,7 @@ use lib.ListN.{length, getD, replicate}
 use lib.Dec.{eqb, ltb}
 use borrow.Author.Tests.{lt-ltb, le-ltb, ne-eqb}
 use Rattle.plate.specs.Choice.{pick}
+use Rattle.plate.specs.Ended.{none}
 use Rattle.plate.specs.declared.Refusal.{Refusal}
 use Rattle.piece.specs.Piece.{pieceAt}
 use Rattle.piece.specs.declared.Piece.{Piece}
@@ -17,7 +18,7 @@ use Rattle.order.specs.Order.{started, progressAfter, stepOf}
 use Rattle.order.specs.declared.Progress.{Progress}
 use Rattle.order.specs.declared.Step.the-variants as step
 use Rattle.order.proofs.Laws.{step-next, step-ended}
-use Rattle.stream.specs.Stream.{Packets, runsOut, closed, none, typesAfter, onPiece, packetsFrom, packets, ranOut, onStep, judgePackets, checkOf, carriesPiece, firstOf, orFirst, firstHere, collect, runOf, orNotThere, ifChecked, seekOf}
+use Rattle.stream.specs.Stream.{Packets, runsOut, closed, typesAfter, onPiece, packetsFrom, packets, ranOut, onStep, judgePackets, checkOf, carriesPiece, firstOf, orFirst, firstHere, collect, runOf, orNotThere, ifChecked, seekOf}
 use Rattle.stream.specs.declared.Spot.{Spot}
 use Rattle.stream.specs.declared.Spot.the-variants as spot
 use Rattle.stream.specs.declared.CheckAnswer.{CheckAnswer}

@@ -5,6 +5,7 @@ use mathlib.Core.List.{List, [], _∷_}
 use lib.ListN.{length, getD, take, drop, replicate}
 use lib.Dec.{eqb, ltb}
 use Rattle.plate.specs.Choice.{pick}
+use Rattle.plate.specs.Ended.{Ended, none, inFront}
 use Rattle.plate.specs.Plate.{refusal}
 use Rattle.plate.specs.declared.Refusal.{Refusal}
 use Rattle.media_type.specs.MediaType.{knownType}
@@ -38,15 +39,8 @@ pub data End : Type 0 where
   runsOut : End
   stops : Refusal → End
 
-pub record Packets : Type 0 where
-  pub list : List Placed
-  pub end : End
-
-abbrev pub none : End → Packets
-none e = record { list = []; end = e }
-
-abbrev pub packetInFront : Placed → Packets → Packets
-packetInFront x ps = record { list = x ∷ ps .list; end = ps .end }
+abbrev pub Packets : Type 0
+Packets = Ended Placed End
 
 -- the latest map's types, once a packet has passed
 abbrev pub typesAfter : List ℕ → ℕ → Piece → List ℕ → List ℕ
@@ -56,7 +50,7 @@ typesAfter s at x types = pick (eqb (x .«packet_type») 0xBC) (typesIn (take (x
 abbrev pub onPiece : List ℕ → ℕ → List ℕ → (List ℕ → ℕ → Packets) → PieceAnswer → Packets
 onPiece s at types next (piece.Refused r) = none (stops r)
 onPiece s at types next (piece.Whole x) =
-    packetInFront (record { at = at; piece = x; types = typesAfter s at x types })
+    inFront (record { at = at; piece = x; types = typesAfter s at x types })
     (pick (eqb (x .«packet_type») 0xFB) (none closed) (next (typesAfter s at x types) (at + x .len)))
 
 -- the packets from an offset on, the first of the stream or not; f is more than the packets that can follow
