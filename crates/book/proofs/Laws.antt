@@ -14,7 +14,8 @@ use Rattle.plate.proofs.Tests.{no-choice}
 use Rattle.number.specs.Number.{le}
 use Rattle.number.proofs.Laws.{Bytes, le-four}
 use Rattle.media_type.specs.MediaType.{knownType}
-use Rattle.book.specs.Book.{Book, onSlot, Slot, broken, holds, recordAt, bookFrom, bookOf, bookAt, risesAt, stands, soundHead, judgeBook, Verdict, bad, good, verdictFrom, isOf, firstIn, orNotThere, Offset, nothing, there, ifGood, lookupOf}
+use Rattle.book.specs.Book.{Book, onSlot, Slot, broken, holds, recordAt, bookFrom, bookOf, risesAt, stands, judgeBook, Verdict, bad, good, isOf, firstIn, orNotThere, Offset, nothing, there, ifGood, lookupOf}
+use Rattle.book.specs.Inside.{bookAt, soundHead, verdictFrom}
 use Rattle.book.specs.declared.Entry.{Entry}
 use Rattle.book.specs.declared.LookupAnswer.{LookupAnswer}
 use Rattle.book.specs.declared.LookupAnswer.the-variants as lookup

@@ -1,5 +1,5 @@
 -- The seek book (01, "Stream, seek, book"): the entries, their bytes, when a lent book is good, and lookup. A book is its list of entries; only the bytes know the layout.
-use Prim.Native.Nat.{ℕ, zero, suc, _+_, _-_, _*_, _/_, _%_}
+use Prim.Native.Nat.{ℕ, zero, suc, _+_, _-_}
 use mathlib.Core.Bool.{Bool, true, false}
 use mathlib.Core.List.{List, [], _∷_, _++_}
 use lib.ListN.{length, getD}
@@ -99,14 +99,3 @@ lookupIn b track field = ifGood (judgeBook 0 0 (b .list) (b .end)) (orNotThere (
 
 unfoldable pub lookupOf : List ℕ → ℕ → ℕ → LookupAnswer
 lookupOf s track field = lookupIn (bookOf s) track field
-
--- for the code alone: the first four bytes of a record, as one word, least significant first, are the marks, an ID up to 63 and a known type
-unfoldable pub soundHead : ℕ → Bool
-soundHead h = pick (eqb (h % 0x10000) 0x5847) (pick (ltb 63 (h / 0x10000 % 0x100)) false (knownType (h / 0x1000000))) false
-
--- and a book from record n on, where 16 times n is no more than its length
-abbrev pub bookAt : List ℕ → ℕ → Book
-bookAt s n = bookFrom s (suc (length s)) (n * 16)
-
-abbrev pub verdictFrom : List ℕ → ℕ → ℕ → Verdict
-verdictFrom s n last = judgeBook n last (bookAt s n .list) (bookAt s n .end)

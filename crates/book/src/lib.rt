@@ -7,7 +7,8 @@ ghost use lib.Dec.{eqb};
 ghost use Rattle.plate.specs.Choice.{pick};
 ghost use Rattle.plate.specs.Plate.{refusal};
 ghost use Rattle.number.specs.Number.{le};
-ghost use Rattle.book.specs.Book.{soundHead, risesAt, ifGood, verdictFrom, lookupOf};
+ghost use Rattle.book.specs.Book.{risesAt, ifGood, lookupOf};
+ghost use Rattle.book.specs.Inside.{soundHead, verdictFrom};
 
 // What a record says: a track ID, a media type, a field number and the offset of the packet that carries it.
 pub struct Entry {

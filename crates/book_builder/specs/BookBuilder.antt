@@ -1,13 +1,12 @@
 -- The building of a seek book (01, "Stream, seek, book"): the entries of a stream's packets, the answer, and what the lent buffer holds then.
-use mathlib.Core.Path.{_≡_}
-use Prim.Native.Nat.{ℕ, _+_, _*_, _≤_}
+use Prim.Native.Nat.{ℕ, _*_}
 use mathlib.Core.Bool.{Bool, false}
 use mathlib.Core.List.{List, [], _∷_, _++_}
-use lib.ListN.{length, getD, drop}
+use lib.ListN.{length, drop}
 use lib.Dec.{eqb, ltb}
+use Rattle.packet.specs.Packet.{typeMedia}
 use Rattle.plate.specs.Choice.{pick}
 use Rattle.plate.specs.Plate.{refusal}
-use Rattle.number.specs.Number.{be}
 use Rattle.media_type.specs.MediaType.{knownType}
 use Rattle.piece.specs.declared.Piece.{Piece}
 use Rattle.stream.specs.Stream.{Placed, packets, checkOf}
@@ -20,7 +19,7 @@ use Rattle.book_builder.specs.declared.BuildAnswer.the-variants as build
 
 -- a packet has a record if it is media of known type
 unfoldable pub recorded : Piece → Bool
-recorded x = pick (eqb (x .«packet_type») 0xBF) (knownType (x .«media_type»)) false
+recorded x = pick (eqb (x .«packet_type») typeMedia) (knownType (x .«media_type»)) false
 
 -- the record of a packet at an offset
 abbrev pub entryOf : ℕ → Piece → Entry
@@ -53,20 +52,3 @@ recordsWrittenIn l bytes (build.Records n) = bytes ++ drop (length bytes) l
 
 unfoldable pub builtIn : List ℕ → List ℕ → List ℕ
 builtIn l s = recordsWrittenIn l (bookBytes (entriesIn s)) (buildAnswer l s)
-
--- for the code alone: how it walks over the packets of a stream that the check has passed
-pub record Accepted (s : List ℕ) : Type 0 where
-  pub count : ℕ
-  pub passes : checkOf s ≡ check.Packets count
-
--- at the offset of such a packet: it has a header (clause 6: not 1), and a media packet has a preamble (Table 21: not 8)
-pub record Seeable (s : List ℕ) (at : ℕ) : Type 0 where
-  pub header : at + 16 ≤ length s
-  pub preamble : getD s (at + 5) 0 ≡ 0xBF → at + 32 ≤ length s
-
--- what its bytes say: type and length of clause 6, and of a media packet media type, ID and field number of Table 21
-unfoldable pub seenAt : List ℕ → ℕ → Piece
-seenAt s at =
-    pick (eqb (getD s (at + 5) 0) 0xBF)
-    (record { «packet_type» = 0xBF; len = be s (at + 6) 4; «media_type» = getD s (at + 16) 0; track = getD s (at + 17) 0; field = be s (at + 18) 4 })
-    (record { «packet_type» = getD s (at + 5) 0; len = be s (at + 6) 4; «media_type» = 0; track = 0; field = 0 })

@@ -1,1 +1,2 @@
 pub mod BookBuilder
+pub mod Inside

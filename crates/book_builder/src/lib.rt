@@ -8,7 +8,8 @@ ghost use Prim.Native.Nat.{_+_, _*_, _≤_};
 ghost use lib.ListN.{length};
 ghost use lib.Seq.{sets};
 ghost use Rattle.book.specs.Book.{recordBytes, bookBytes};
-ghost use Rattle.book_builder.specs.BookBuilder.{recorded, entriesHere, entriesIn, Seeable, seenAt, Accepted, buildAnswer, builtIn};
+ghost use Rattle.book_builder.specs.BookBuilder.{recorded, entriesHere, entriesIn, buildAnswer, builtIn};
+ghost use Rattle.book_builder.specs.Inside.{Seeable, seenAt, Accepted};
 
 // A book of so many records was written.
 pub enum BuildAnswer {

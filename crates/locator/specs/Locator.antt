@@ -6,7 +6,7 @@ use lib.Dec.{ltb, eqb}
 use Rattle.plate.specs.Choice.{pick}
 use Rattle.plate.specs.Plate.{refusal}
 use Rattle.number.specs.Number.{le}
-use Rattle.packet.specs.Packet.{packetAt}
+use Rattle.packet.specs.Packet.{packetAt, typeFlt}
 use Rattle.packet.specs.declared.PacketAnswer.{PacketAnswer}
 use Rattle.packet.specs.declared.PacketAnswer.the-variants.{Whole, Refused as NoPacket}
 use Rattle.locator.specs.declared.Locator.{Locator}
@@ -49,11 +49,11 @@ tableIn s at (NoPacket r) = NoTable r
 tableIn s at (Whole p) = tableOf (take (p .len) (drop at s))
 
 unfoldable pub tableAt : List ℕ → ℕ → LocatorAnswer
-tableAt s at = tableIn s at (packetAt s at 0xFC)
+tableAt s at = tableIn s at (packetAt s at typeFlt)
 
 abbrev pub positionIn : List ℕ → ℕ → ℕ → PacketAnswer → PositionAnswer
 positionIn s at d (NoPacket r) = Refused r
 positionIn s at d (Whole p) = positionOf (take (p .len) (drop at s)) d
 
 unfoldable pub positionAt : List ℕ → ℕ → ℕ → PositionAnswer
-positionAt s at d = positionIn s at d (packetAt s at 0xFC)
+positionAt s at d = positionIn s at d (packetAt s at typeFlt)

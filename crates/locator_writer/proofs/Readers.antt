@@ -10,7 +10,8 @@ use Rattle.locator.specs.Locator.{tableAt, positionAt}
 use Rattle.locator.specs.declared.LocatorAnswer.{LocatorAnswer}
 use Rattle.locator.specs.declared.PositionAnswer.{PositionAnswer}
 use Rattle.locator_writer.specs.Readers.{ReadGives, PositionGives, Readers}
-use Rattle.locator_writer.proofs.RoundTrip.{ReadBack, write-reads-back}
+use Rattle.locator_writer.proofs.RoundTrip.{write-reads-back}
+use Rattle.locator_writer.specs.ReadBack.{ReadBack}
 use Rattle.locator_writer.proofs.write.Kinds as kinds
 use Rattle.locator_writer.proofs.write.Reads as reads
 

@@ -7,15 +7,14 @@ use native.Mathlib.Omega.{arith}
 use native.Mathlib.Nat.{mul-div-cancel}
 use borrow.Author.Tests.{le-ltb, ne-eqb}
 use lib.ListN.{length, getD, take, drop}
-use Rattle.plate.specs.Plate.{refusal}
 use Rattle.packet.specs.Packet.{packetAt, headerAt}
 use Rattle.packet.specs.declared.PacketAnswer.the-variants.{Whole}
 use Rattle.packet_writer.specs.Write.{over}
 use Rattle.packet_writer.proofs.Laws.{framed, header-stands}
 use Rattle.locator.specs.Locator.{tableAt, positionAt}
-use Rattle.locator.specs.declared.LocatorAnswer.the-variants.{Table}
 use Rattle.locator.specs.declared.PositionAnswer.the-variants.{At, Refused as NoPosition}
 use Rattle.locator_writer.specs.Write.{lengthOf, locatorPacket, mayWrite, locatorAnswer, locatorWrittenIn}
+use Rattle.locator_writer.specs.ReadBack.{ReadBack}
 use Rattle.packet_writer.specs.declared.WriteAnswer.the-variants.{Length, Refused}
 use Rattle.locator_writer.proofs.Laws.{length-packet, wrote}
 use Rattle.locator_writer.proofs.Back.{may, all-small, small-all, table, position, past, header, answered}
@@ -25,19 +24,6 @@ use denote.Triple.Clauses.{AtExit}
 use Rattle.locator_writer.proofs.write.Kinds as kinds
 use Rattle.locator_writer.proofs.write.Reads as reads
 use Rattle.plate.specs.declared.Refusal.{Refusal}
-
--- of a buffer, what was asked, the length answered, and the buffer afterwards: the table is read back whole, and all else is as it was
-pub record ReadBack (out : List ℕ) (at step : ℕ) (ns : List ℕ) (n : ℕ) (now : List ℕ) : Type 0 where
-  pub long : n ≡ 24 + 4 * length ns
-  pub table : tableAt now at ≡ Table (record { step = step; count = length ns })
-  -- every distance within the table gives the position of its entry, 1,024 times the offset
-  pub position : (d : ℕ) → d / step < length ns → positionAt now at d ≡ At (1024 * getD ns (d / step) 0)
-  -- the first field of entry k
-  pub entry : (k : ℕ) → k < length ns → positionAt now at (k * step) ≡ At (1024 * getD ns k 0)
-  pub past : (d : ℕ) → length ns ≤ d / step → positionAt now at d ≡ NoPosition (refusal 16 0)
-  pub before : take at now ≡ take at out
-  pub after : drop (at + n) now ≡ drop (at + n) out
-  pub lengths : length now ≡ length out
 
 pub round-trip : (out : List ℕ) (at step : ℕ) (ns : List ℕ) (n : ℕ) → locatorAnswer out at step ns ≡ Length n → ReadBack out at step ns n (locatorWrittenIn out at step ns)
 unfolding tableAt positionAt packetAt

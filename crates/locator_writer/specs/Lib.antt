@@ -1,2 +1,3 @@
+pub mod ReadBack
 pub mod Readers
 pub mod Write

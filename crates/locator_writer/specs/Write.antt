@@ -5,6 +5,7 @@ use mathlib.Core.List.{List, [], _∷_, _++_}
 use mathlib.Core.Bool.{Bool, true, false}
 use lib.ListN.{length}
 use lib.Dec.{ltb, eqb}
+use Rattle.packet.specs.Packet.{typeFlt}
 use Rattle.plate.specs.Choice.{pick}
 use Rattle.number.specs.Number.{leBytes}
 use Rattle.packet_writer.specs.Write.{headerOf, refused, ifRoom, bufferAfter}
@@ -21,7 +22,7 @@ lengthOf ns = 24 + 4 * length ns
 
 -- clause 7.2: an FLT packet, its type FC; no unused entries
 unfoldable pub locatorPacket : ℕ → List ℕ → List ℕ
-locatorPacket step ns = headerOf 0xFC (lengthOf ns) ++ leBytes 4 step ++ leBytes 4 (length ns) ++ entryBytes ns
+locatorPacket step ns = headerOf typeFlt (lengthOf ns) ++ leBytes 4 step ++ leBytes 4 (length ns) ++ entryBytes ns
 
 -- every number fits four bytes
 unfoldable pub allFit : List ℕ → Bool

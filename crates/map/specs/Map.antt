@@ -7,7 +7,7 @@ use lib.Dec.{ltb, eqb}
 use Rattle.plate.specs.Choice.{pick}
 use Rattle.plate.specs.Plate.{refusal}
 use Rattle.number.specs.Number.{be}
-use Rattle.packet.specs.Packet.{packetAt}
+use Rattle.packet.specs.Packet.{packetAt, typeMap}
 use Rattle.packet.specs.declared.PacketAnswer.{PacketAnswer}
 use Rattle.packet.specs.declared.PacketAnswer.the-variants as packet
 use Rattle.map_items.specs.Items.{sectionOf}
@@ -108,11 +108,11 @@ mapFrom s at (packet.Refused r) = map.Refused r
 mapFrom s at (packet.Whole w) = answerOf (part at (at + w .len) s)
 
 unfoldable pub mapAt : List ℕ → ℕ → MapAnswer
-mapAt s at = mapFrom s at (packetAt s at 0xBC)
+mapAt s at = mapFrom s at (packetAt s at typeMap)
 
 abbrev pub trackFrom : List ℕ → ℕ → ℕ → PacketAnswer → TrackAnswer
 trackFrom s at k (packet.Refused r) = track.Refused r
 trackFrom s at k (packet.Whole w) = trackIn (part at (at + w .len) s) k
 
 unfoldable pub trackAt : List ℕ → ℕ → ℕ → TrackAnswer
-trackAt s at k = trackFrom s at k (packetAt s at 0xBC)
+trackAt s at k = trackFrom s at k (packetAt s at typeMap)

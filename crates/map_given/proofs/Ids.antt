@@ -11,7 +11,7 @@ use lib.Dec.{ltb, eqb}
 use Rattle.plate.specs.Choice.{pick}
 use Rattle.map_items.specs.Judge.{has}
 use Rattle.map_given.specs.Given.{tracksFrom, tracksGiven}
-use Rattle.map_given.specs.Flags.{flagFault, flagged}
+use Rattle.map_given.specs.Inside.{flagFault, flagged}
 use Rattle.map_given.specs.Faults.{graver, idFault, idsFault}
 use Rattle.map_given.proofs.Laws.{Keeps, graver-assoc, graver-zero, graver-first, tracks-more, no-tracks}
 

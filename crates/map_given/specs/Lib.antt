@@ -1,4 +1,4 @@
 pub mod Faults
-pub mod Flags
 pub mod Given
+pub mod Inside
 pub mod Places

@@ -10,7 +10,7 @@ ghost use Rattle.text.specs.Text.{textOk};
 ghost use Rattle.map_given.specs.Given.{slotAt, slots, trackAt, tracksGiven};
 ghost use Rattle.map_given.specs.Places.{materialPlaces, trackPlaces};
 ghost use Rattle.map_given.specs.Faults.{isText, codeFits, fits, barred, slotFault, graver, slotsFault, ownFault, tracksFault, idsFault, faultOf};
-ghost use Rattle.map_given.specs.Flags.{flagFault, flagged};
+ghost use Rattle.map_given.specs.Inside.{flagFault, flagged};
 
 // A record's slot has three words: its mark, 1 for present and 0 for absent, and two more, which are not looked at where it is absent.
 // A text is its place in the lent text and its length without the 00, empty for null; 4D likewise, of length 8. A number or code is the first; the second is not looked at.

@@ -3,7 +3,7 @@ use Prim.Native.Nat.{ℕ, _+_, _-_}
 use mathlib.Core.List.{List, []}
 use lib.ListN.{take, drop}
 use Rattle.plate.specs.Plate.{refusal}
-use Rattle.packet.specs.Packet.{packetAt}
+use Rattle.packet.specs.Packet.{packetAt, typeMap}
 use Rattle.packet.specs.declared.PacketAnswer.{PacketAnswer}
 use Rattle.packet.specs.declared.PacketAnswer.the-variants as packet
 use Rattle.map_items.specs.declared.Part.{Part}
@@ -31,7 +31,7 @@ ifWhole s (packet.Refused r) = opened.Refused r
 ifWhole s (packet.Whole w) = ifAccepted (w .len) (mapVerdict (take (w .len) s))
 
 unfoldable pub openedOf : List ℕ → Opened
-openedOf s = ifWhole s (packetAt s 0 0xBC)
+openedOf s = ifWhole s (packetAt s 0 typeMap)
 
 -- a text without its closing 00
 unfoldable pub unended : Part → Part

@@ -23,7 +23,8 @@ use Rattle.map.specs.declared.MapAnswer.{MapAnswer}
 use Rattle.map.specs.declared.MapAnswer.the-variants as map
 use Rattle.map.specs.declared.MapSays.{MapSays}
 use Rattle.map.specs.declared.TrackAnswer.the-variants as track
-use Rattle.map_records.specs.Fill.{recordsFrom, recordsAt, withRoom, answerFor, blank, lentAfter, Filled}
+use Rattle.map_records.specs.Fill.{recordsFrom, recordsAt, withRoom, answerFor, lentAfter, Filled}
+use Rattle.map_records.specs.Inside.{blank}
 use Rattle.map_records.proofs.Laws.{counted}
 use Rattle.map.proofs.Numbers.{map-refused}
 

@@ -23,7 +23,8 @@ use Rattle.map.specs.Map.{part, listedIn, materialSays, mapVerdict, onVerdict, 
 use Rattle.map.specs.declared.MapAnswer.{MapAnswer}
 use Rattle.map.specs.declared.MapAnswer.the-variants as map
 use Rattle.map.specs.declared.MapSays.{MapSays}
-use Rattle.map_records.specs.Fill.{recordsFrom, recordsAt, withRoom, answerFor, lentAfter, recordsToWrite, blank}
+use Rattle.map_records.specs.Fill.{recordsFrom, recordsAt, withRoom, answerFor, lentAfter}
+use Rattle.map_records.specs.Inside.{recordsToWrite, blank}
 
 abbrev pub orBlank : Kth → Track
 orBlank (kth.Record t) = t

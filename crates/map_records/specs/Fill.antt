@@ -6,13 +6,10 @@ use lib.ListN.{length, drop}
 use lib.Dec.{ltb}
 use Rattle.plate.specs.Choice.{pick}
 use Rattle.plate.specs.Plate.{refusal}
-use Rattle.packet.specs.Packet.{packetAt}
+use Rattle.packet.specs.Packet.{packetAt, typeMap}
 use Rattle.packet.specs.declared.PacketAnswer.{PacketAnswer}
 use Rattle.packet.specs.declared.PacketAnswer.the-variants as packet
-use Rattle.map_items.specs.declared.Part.the-variants as item
 use Rattle.map_answer.specs.declared.Track.{Track}
-use Rattle.map_answer.specs.declared.Code.the-variants as code
-use Rattle.map_answer.specs.declared.Value.the-variants as value
 use Rattle.map_tracks.specs.Tracks.{recordOf}
 use Rattle.map.specs.Map.{part, listedIn, mapAt}
 use Rattle.map.specs.declared.MapAnswer.{MapAnswer}
@@ -24,7 +21,7 @@ recordsFrom s at (packet.Refused r) = []
 recordsFrom s at (packet.Whole w) = each recordOf (listedIn (part at (at + w .len) s))
 
 unfoldable pub recordsAt : List ℕ → ℕ → List Track
-recordsAt s at = recordsFrom s at (packetAt s at 0xBC)
+recordsAt s at = recordsFrom s at (packetAt s at typeMap)
 
 -- all other faults first; then 13, exactly when fewer records are lent than tracks are listed
 abbrev pub withRoom : ℕ → MapAnswer → MapAnswer
@@ -33,26 +30,6 @@ withRoom room (map.Says m) = pick (ltb room (m .count)) (map.Refused (refusal 13
 
 unfoldable pub answerFor : List ℕ → ℕ → ℕ → MapAnswer
 answerFor s at room = withRoom room (mapAt s at)
-
--- a record in which nothing is present: what fills the place of a track that is not there, within the code. It is never recordsToWrite, and `Filled` does not rest on it
-unfoldable pub blank : Track
-blank =
-    record {
-      id = 0;
-      «media_type» = 0;
-      rate = code.Absent;
-      lines = code.Absent;
-      fields = code.Absent;
-      version = value.Absent;
-      name = item.Absent;
-      aux = item.Absent;
-      mpeg = item.Absent;
-    }
-
--- how many records an answer stands for; this too is for the code alone
-unfoldable pub recordsToWrite : MapAnswer → ℕ
-recordsToWrite (map.Refused r) = 0
-recordsToWrite (map.Says m) = m .count
 
 -- the lent records ys after an answer: a refused call leaves every one; else the listed tracks' come first, and those past the last stay
 unfoldable pub lentAfter : List Track → List Track → MapAnswer → List Track

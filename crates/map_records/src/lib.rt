@@ -10,7 +10,8 @@ use packet::PacketAnswer;
 use map_tracks::Kth;
 ghost use mathlib.Core.Path.{_≡_};
 ghost use lib.ListN.{length, getD};
-ghost use Rattle.map_records.specs.Fill.{recordsAt, withRoom, answerFor, recordsToWrite, blank, Filled};
+ghost use Rattle.map_records.specs.Fill.{recordsAt, withRoom, answerFor, Filled};
+ghost use Rattle.map_records.specs.Inside.{recordsToWrite, blank};
 
 // The map's answer, or 13 where there is room for fewer records than it lists tracks.
 fn answer_for(s: &[u8], at: usize, room: usize) -> MapAnswer

@@ -14,7 +14,8 @@ use Rattle.map_items.specs.declared.Verdict.{Verdict}
 use Rattle.map_items.specs.declared.Verdict.the-variants.{Refused}
 use Rattle.map_items.proofs.Places.{at-place, not-refused, either-part}
 use Rattle.map_items.proofs.Places as items
-use Rattle.map_tracks.specs.Tracks.{Description, End, over, short, hangs, tracksOf, descriptionsSize, onBytes, trackOver, trackVerdict, endVerdict, judgeTracks, tracksVerdict}
+use Rattle.map_tracks.specs.Tracks.{Description, End, over, short, hangs, tracksOf, onBytes, trackOver, trackVerdict, endVerdict, judgeTracks, tracksVerdict}
+use Rattle.map_tracks.specs.Inside.{descriptionsSize}
 use Rattle.map_tracks.proofs.Split.{section-size}
 
 -- a header's bytes, or what follows

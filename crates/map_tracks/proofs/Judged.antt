@@ -15,7 +15,7 @@ use Rattle.map_items.specs.declared.Verdict.{Verdict}
 use Rattle.map_items.specs.declared.Verdict.the-variants.{Accepted, Refused}
 use Rattle.plate.specs.declared.Refusal.{Refusal}
 use Rattle.map_tracks.specs.declared.Seen.{Seen}
-use Rattle.map_tracks.specs.Seen.{holds, Empty, Adds}
+use Rattle.map_tracks.specs.Inside.{holds, Empty, Adds}
 use Rattle.map_tracks.specs.Tracks.{Descriptions, splitTracks, tracksOf, onBytes, trackVerdict, endVerdict, judgeTracks, tracksVerdict}
 use Rattle.map_tracks.proofs.Split.{items-length, split-done, split-short, split-over, split-track}
 

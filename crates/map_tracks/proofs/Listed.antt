@@ -10,7 +10,8 @@ use Rattle.plate.specs.Choice.{pick}
 use Rattle.number.specs.Number.{be}
 use Rattle.map_items.specs.Items.{sectionOf}
 use Rattle.map_answer.specs.Answer.{trackOf}
-use Rattle.map_tracks.specs.Tracks.{Description, Placed, splitTracks, tracksOf, isListed, listed, recordOf, kthOf, idOf, keyOf, keyedOf, typesOf}
+use Rattle.map_tracks.specs.Tracks.{Description, Placed, splitTracks, tracksOf, isListed, listed, recordOf, kthOf, idOf, typesOf}
+use Rattle.map_tracks.specs.Inside.{keyOf, keyedOf}
 use Rattle.map_tracks.specs.declared.Kth.the-variants.{Record}
 use Rattle.map_tracks.proofs.Split.{trackAt, items-length, split-done, split-short, split-over, split-track}
 

@@ -14,7 +14,8 @@ use Rattle.map_answer.proofs.Laws.{stands}
 use Rattle.map_items.specs.Items.{sectionOf}
 use Rattle.map_items.specs.Find.{find, partOf}
 use Rattle.map_tracks.proofs.Listed.{listed-first, unlisted-passed}
-use Rattle.map_tracks.specs.Tracks.{Description, Placed, tracksOf, descriptionsSize, isListed, listed, recordOf, idOf}
+use Rattle.map_tracks.specs.Tracks.{Description, Placed, tracksOf, isListed, listed, recordOf, idOf}
+use Rattle.map_tracks.specs.Inside.{descriptionsSize}
 use Rattle.map_tracks.specs.declared.Kth.the-variants.{Record}
 use Rattle.map_tracks.proofs.Split.{section-size}
 

@@ -13,7 +13,8 @@ use Rattle.plate.specs.Ended.{none, inFront}
 use Rattle.number.specs.Number.{be, beBytes}
 use Rattle.number.proofs.Laws.{length-beBytes}
 use Rattle.number.proofs.Bytes.{AllBytes, bytes-drop}
-use Rattle.map_tracks.specs.Tracks.{Description, over, short, hangs, splitTracks, descriptionsSize, descriptionsBytes, tracksOf}
+use Rattle.map_tracks.specs.Tracks.{Description, over, short, hangs, splitTracks, descriptionsBytes, tracksOf}
+use Rattle.map_tracks.specs.Inside.{descriptionsSize}
 use mathlib.Core.Bool.{Bool, true, false}
 
 -- the track at a place

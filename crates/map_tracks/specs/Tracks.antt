@@ -48,11 +48,6 @@ splitTracks (suc f) (k ∷ i ∷ h ∷ l ∷ s) =
 unfoldable pub tracksOf : List ℕ → Descriptions
 tracksOf s = splitTracks (suc (length s)) s
 
--- the bytes that some tracks take
-unfoldable pub descriptionsSize : List Description → ℕ
-descriptionsSize [] = 0
-descriptionsSize (d ∷ ds) = 4 + length (d .items) + descriptionsSize ds
-
 -- the bytes that some tracks are
 unfoldable pub descriptionsBytes : List Description → List ℕ
 descriptionsBytes [] = []
@@ -116,14 +111,6 @@ kthOf (suc k) (x ∷ xs) = kthOf k xs
 unfoldable pub idOf : ℕ → List Placed → Kth
 idOf id [] = Nothing
 idOf id (x ∷ xs) = pick (eqb (x .track .id - 0xC0) id) (Record (recordOf x)) (idOf id xs)
-
--- both in one, for the code alone: what a track is asked for by, its bare ID or how many stand before it, and the record of the first for which that is wanted
-unfoldable pub keyOf : Bool → ℕ → ℕ → ℕ
-keyOf named before id = pick named (id - 0xC0) before
-
-unfoldable pub keyedOf : Bool → ℕ → ℕ → List Placed → Kth
-keyedOf named before wanted [] = Nothing
-keyedOf named before wanted (x ∷ xs) = pick (eqb (keyOf named before (x .track .id)) wanted) (Record (recordOf x)) (keyedOf named (before + 1) wanted xs)
 
 -- by ID, the media type under which a track is listed, and 0 where none is
 unfoldable pub typesOf : List ℕ → List Description → List ℕ

@@ -9,8 +9,8 @@ ghost use Prim.Native.Nat.{_+_, _-_, _<_, _≤_, _^_};
 ghost use lib.ListN.{length, set, replicate};
 ghost use Rattle.plate.specs.Choice.{pick};
 ghost use Rattle.media_type.specs.MediaType.{knownType};
-ghost use Rattle.map_tracks.specs.Seen.{holds, Empty, Adds};
-ghost use Rattle.map_tracks.specs.Tracks.{trackVerdict, tracksOf, tracksVerdict, listed, kthOf, idOf, keyOf, keyedOf, typesOf};
+ghost use Rattle.map_tracks.specs.Inside.{holds, Empty, Adds, keyOf, keyedOf};
+ghost use Rattle.map_tracks.specs.Tracks.{trackVerdict, tracksOf, tracksVerdict, listed, kthOf, idOf, typesOf};
 
 // The track IDs seen so far.
 pub struct Seen {

@@ -9,7 +9,7 @@ use lib.Dec.{ltb, eqb}
 use Rattle.plate.specs.Choice.{pick}
 use Rattle.map_given.specs.declared.Slot.{Slot}
 use Rattle.map_given.specs.Given.{slotAt, slots, trackAt, tracksFrom}
-use Rattle.map_writer.specs.Sizes.{slotSize, slotsSize, tracksSize, capped}
+use Rattle.map_writer.specs.Inside.{slotSize, slotsSize, tracksSize, capped}
 use Rattle.map_given.specs.Faults.{isText, isEight}
 use Rattle.map_given.proofs.Laws.{slots-more, no-slots, tracks-more, no-tracks}
 

@@ -19,7 +19,7 @@ use Rattle.map.specs.Encode as encode
 use Rattle.map.specs.Encode.{padding, packetLength, sectionBytes, front, encode}
 use Rattle.map.proofs.Encoded.{front-length, packet-length}
 use Rattle.map_given.specs.Given.{materialSlots, tracksGiven}
-use Rattle.map_writer.specs.Sizes.{slotsSize, tracksSize, tracksBytes}
+use Rattle.map_writer.specs.Inside.{slotsSize, tracksSize, tracksBytes}
 use Rattle.map_given.specs.Faults.{faultOf}
 use Rattle.map_writer.specs.Write.{itemsOf, partsGiven, mapPacket, materialLength, tracksLength, mapAnswer, mapWrittenIn}
 use Rattle.map_writer.proofs.Laws.{slots-under}

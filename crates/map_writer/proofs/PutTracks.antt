@@ -12,7 +12,7 @@ use Rattle.map_items.specs.Items.{itemsBytes}
 use Rattle.map_tracks.specs.Tracks as tracks
 use Rattle.map.specs.Encode.{described}
 use Rattle.map_given.specs.Given.{slots, Given, trackAt, tracksFrom}
-use Rattle.map_writer.specs.Sizes.{slotsSize, tracksSize, tracksBytes}
+use Rattle.map_writer.specs.Inside.{slotsSize, tracksSize, tracksBytes}
 use Rattle.map_given.specs.Faults.{slotsFault, ownFault, tracksFault}
 use Rattle.map_writer.specs.Write.{itemsOf}
 use Rattle.map_given.proofs.Laws.{tracks-more, no-tracks}

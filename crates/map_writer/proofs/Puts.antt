@@ -17,7 +17,7 @@ use Rattle.map_items.specs.Items.{itemsBytes}
 use Rattle.map_items.specs.Judge.{has}
 use Rattle.map_given.specs.declared.Slot.{Slot}
 use Rattle.map_given.specs.Given.{slotAt, slots}
-use Rattle.map_writer.specs.Sizes.{slotSize, slotsSize}
+use Rattle.map_writer.specs.Inside.{slotSize, slotsSize}
 use Rattle.map_given.proofs.Laws.{text-fits, none-graver, slots-more, no-slots}
 use Rattle.map_writer.proofs.Laws.{slots-size-turn}
 use Rattle.map_given.specs.Faults.{isText, isEight, slotFault, slotsFault}

@@ -28,7 +28,8 @@ use Rattle.map_writer.specs.Meaning.{Codes, codesGiven, codesRead}
 use Rattle.map_writer.specs.Readers.{ReadGives, TrackGives, Says, KthIs, Readers}
 use Rattle.map_writer.specs.Write.{mapPacket, mapAnswer, mapWrittenIn}
 use Rattle.map_writer.proofs.Meaning.{codesShown, codes-told}
-use Rattle.map_writer.proofs.RoundTrip.{ReadBack, answered, round-trip}
+use Rattle.map_writer.proofs.RoundTrip.{answered, round-trip}
+use Rattle.map_writer.specs.ReadBack.{ReadBack}
 use Rattle.map_writer.proofs.write.Kinds as kinds
 use Rattle.map_writer.proofs.write.Reads as reads
 
@@ -68,15 +69,15 @@ module _ (out : List ℕ) (at : ℕ) (text ms ts : List ℕ) (n : ℕ) (now : Li
 
   count : length (listedIn p) ≡ length ts / 23
   unfolding viewIn viewGiven
-  count = ap (λ (s : MapView). s .count) (b .shown)
+  count = ap (λ (s : MapView). s .count) (b .view)
 
   says : Says p (viewGiven text ms ts) (answer.Says m)
   unfolding viewIn
-  says = (ap (λ (s : MapView). s .count) (b .shown), ap (λ (s : MapView). s .material) (b .shown))
+  says = (ap (λ (s : MapView). s .count) (b .view), ap (λ (s : MapView). s .material) (b .view))
 
   tracks : map (trackViewIn p) rs ≡ viewGiven text ms ts .tracks
   unfolding viewIn
-  tracks = sym (shown-records p (listedIn p)) ∙ ap (λ (s : MapView). s .tracks) (b .shown)
+  tracks = sym (shown-records p (listedIn p)) ∙ ap (λ (s : MapView). s .tracks) (b .view)
 
   codes : map codesRead rs ≡ codesGiven (length ts / 23) ts 0
   unfolding viewGiven

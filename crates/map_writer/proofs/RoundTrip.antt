@@ -13,12 +13,8 @@ use Rattle.plate.specs.declared.Refusal.{Refusal}
 use Rattle.packet.specs.Packet.{headerAt}
 use Rattle.packet.specs.declared.PacketAnswer.the-variants.{Whole}
 use Rattle.packet.proofs.Laws.{whole}
-use Rattle.map_tracks.specs.Tracks.{kthOf}
 use Rattle.map_tracks.proofs.Split as split
-use Rattle.map.specs.Map.{materialSays, listedIn, mapAt, trackAt, onKth}
-use Rattle.map.specs.declared.MapAnswer.the-variants.{Says}
 use Rattle.map.specs.Encode.{described, encode}
-use Rattle.map.specs.View.{viewIn}
 use Rattle.map.proofs.Encoded.{Fit, header-of-encoded}
 use Rattle.map.proofs.Parts.{good-encoded}
 use Rattle.map.proofs.ViewOfParts.{view-encoded}
@@ -27,8 +23,8 @@ use Rattle.packet_writer.specs.Write.{refused}
 use Rattle.packet_writer.specs.declared.WriteAnswer.the-variants.{Length, Refused}
 use Rattle.packet_writer.proofs.Laws.{framed, header-before, header-stands}
 use Rattle.map_given.specs.Given.{tracksGiven}
-use Rattle.map_writer.specs.ViewGiven.{viewGiven}
 use Rattle.map_writer.specs.Write.{partsGiven, partsOfTrack, mapPacket, materialLength, tracksLength, mapAnswer, mapWrittenIn}
+use Rattle.map_writer.specs.ReadBack.{ReadBack}
 use Rattle.map_given.specs.Faults.{faultOf}
 use Rattle.map_given.proofs.Clean.{Clean, clean}
 use Rattle.map_writer.proofs.Packet.{material-size, material-short}
@@ -43,21 +39,6 @@ use Rattle.map_writer.proofs.write.Reads as reads
 -- a packet has its header
 length-of-header : (m : List ℕ) → headerAt m 0 ≡ Whole (record { «packet_type» = 0xBC; len = length m }) → 16 ≤ length m
 length-of-header m h = whole m 0 (record { «packet_type» = 0xBC; len = length m }) h .least
-
--- of a buffer, what was given, the length answered, and the buffer afterwards: the map is read back whole, and all else is as it was
-pub record ReadBack (out : List ℕ) (at : ℕ) (text ms ts : List ℕ) (n : ℕ) (now : List ℕ) : Type 0 where
-  -- the packet stands at its place, and the answer is its length
-  pub long : n ≡ length (mapPacket text ms ts)
-  pub stands : take n (drop at now) ≡ mapPacket text ms ts
-  pub header : headerAt now at ≡ Whole (record { «packet_type» = 0xBC; len = n })
-  -- the reader's answer there: count, material, and the records by their number
-  pub read : mapAt now at ≡ Says (record { count = length (listedIn (mapPacket text ms ts)); material = materialSays (mapPacket text ms ts) })
-  pub track : (k : ℕ) → trackAt now at k ≡ onKth (kthOf k (listedIn (mapPacket text ms ts)))
-  -- it shows what was given: the count of tracks, the material's items, and every record in order, with the bytes at the places
-  pub shown : viewIn (mapPacket text ms ts) ≡ viewGiven text ms ts
-  pub before : take at now ≡ take at out
-  pub after : drop (at + n) now ≡ drop (at + n) out
-  pub lengths : length now ≡ length out
 
 -- a length was answered: there was no fault, the sections fit, and there was room
 pub record Answered (out : List ℕ) (at : ℕ) (text ms ts : List ℕ) (n : ℕ) : Type 0 where
@@ -116,7 +97,7 @@ module _ (out : List ℕ) (at : ℕ) (text ms ts : List ℕ) (n : ℕ) where
         header = header-stands out at p (omega arith) (record { «packet_type» = 0xBC; len = length p }) (λ s. header-before p s (record { «packet_type» = 0xBC; len = length p }) h);
         read = rw (append-assoc q p r) (rw l at (read-there q p r h v));
         track = λ k. rw (append-assoc q p r) (rw l at (track-there q p r h v k));
-        shown = view-encoded (partsGiven text ms ts) f ∙ parts-view-given text ms ts c;
+        view = view-encoded (partsGiven text ms ts) f ∙ parts-view-given text ms ts c;
         before = g .before;
         after = g .after;
         lengths = g .lengths;

@@ -1,5 +1,6 @@
+pub mod Inside
 pub mod Meaning
+pub mod ReadBack
 pub mod Readers
-pub mod Sizes
 pub mod ViewGiven
 pub mod Write

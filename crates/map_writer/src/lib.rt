@@ -16,7 +16,7 @@ ghost use Rattle.map_items.specs.Items.{itemsBytes};
 ghost use Rattle.map_tracks.specs.Tracks as tracks;
 ghost use Rattle.map.specs.Encode.{padding, front};
 ghost use Rattle.map_given.specs.Given.{slotAt, slots, materialSlots, trackAt, tracksFrom, tracksGiven};
-ghost use Rattle.map_writer.specs.Sizes.{slotSize, slotsSize, tracksSize, capped, tracksBytes};
+ghost use Rattle.map_writer.specs.Inside.{slotSize, slotsSize, tracksSize, capped, tracksBytes};
 ghost use Rattle.map_given.specs.Faults.{fits, slotFault, slotsFault, tracksFault, idsFault, faultOf};
 ghost use Rattle.map_writer.specs.Write.{itemsOf, mapPacket, mapAnswer, mapWrittenIn};
 

@@ -6,7 +6,7 @@ use lib.Dec.{ltb}
 use Rattle.plate.specs.Choice.{pick}
 use Rattle.plate.specs.Plate.{refusal}
 use Rattle.number.specs.Number.{be}
-use Rattle.packet.specs.Packet.{packetAt}
+use Rattle.packet.specs.Packet.{packetAt, typeMedia}
 use Rattle.packet.specs.declared.PacketAnswer.{PacketAnswer}
 use Rattle.packet.specs.declared.PacketAnswer.the-variants.{Whole, Refused as NoPacket}
 use Rattle.media.specs.declared.Media.{Media}
@@ -37,4 +37,4 @@ preambleIn s at (NoPacket r) = Refused r
 preambleIn s at (Whole p) = preambleOf (take (p .len) (drop at s)) at
 
 unfoldable pub preambleAt : List ℕ → ℕ → MediaAnswer
-preambleAt s at = preambleIn s at (packetAt s at 0xBF)
+preambleAt s at = preambleIn s at (packetAt s at typeMedia)

@@ -7,7 +7,7 @@ use borrow.Author.Tests.{lt-ltb, le-ltb}
 use lib.ListN.{length}
 use Rattle.mpeg.specs.Lines.{Lines, part, valueEnd, valueThen, labelAt, linesAt}
 use Rattle.mpeg.specs.Read.{fine, bad, judgeLines, taken}
-use Rattle.mpeg.specs.Steps.{Skipped}
+use Rattle.mpeg.specs.Inside.{Skipped}
 use Rattle.plate.specs.declared.Refusal.{Refusal}
 use Rattle.mpeg.specs.declared.Verdict.the-variants.{Fine, Bad}
 use Rattle.mpeg.specs.declared.Label.the-variants.{Names, Broken}

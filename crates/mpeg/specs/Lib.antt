@@ -1,4 +1,4 @@
+pub mod Inside
 pub mod Lines
 pub mod Meaning
 pub mod Read
-pub mod Steps

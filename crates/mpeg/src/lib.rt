@@ -9,7 +9,7 @@ ghost use lib.Dec.{eqb};
 ghost use Rattle.mpeg_parameter.specs.Table.{rowOf};
 ghost use Rattle.mpeg.specs.Lines.{labelAt, valueThen, linesAt};
 ghost use Rattle.mpeg.specs.Read.{taken, judgeLines, parametersAnswer, readOf};
-ghost use Rattle.mpeg.specs.Steps.{Agrees, Skipped};
+ghost use Rattle.mpeg.specs.Inside.{Agrees, Skipped};
 
 pub enum MpegAnswer {
     Given(Parameters),

@@ -4,9 +4,6 @@ use Prim.Native.Nat.{ℕ}
 use mathlib.Core.Path.{_≡_, refl, sym, _∙_, ap}
 use mathlib.Core.List.{List, [], _∷_}
 use native.Mathlib.Omega.{arith}
-use contract.Lifetimes.{Lfts}
-use borrow.Fn.Kinds.{PK, RK, Out, endedOf, resT, Dens}
-use denote.Triple.Clauses.{AtExit}
 use denote.Ref.{RefT}
 use Rattle.plate.specs.Plate.{refusal}
 use Rattle.plate.specs.declared.Refusal.{Refusal}
@@ -15,69 +12,35 @@ use Rattle.stream.specs.declared.CheckAnswer.{CheckAnswer}
 use Rattle.stream.specs.declared.CheckAnswer.the-variants as check
 use Rattle.stream.specs.declared.SeekAnswer.{SeekAnswer}
 use Rattle.stream.specs.declared.SeekAnswer.the-variants as seek
-use Rattle.stream.proofs.check.Kinds as check-kinds
-use Rattle.stream.proofs.check.Reads as check-reads
-use Rattle.stream.proofs.seek.Kinds as seek-kinds
-use Rattle.stream.proofs.seek.Reads as seek-reads
 use Rattle.book.specs.Book as book
 use Rattle.book.specs.declared.LookupAnswer.{LookupAnswer}
 use Rattle.book.specs.declared.LookupAnswer.the-variants as lookup
-use Rattle.book.proofs.lookup.Kinds as lookup-kinds
-use Rattle.book.proofs.lookup.Reads as lookup-reads
 use Rattle.book_builder.specs.BookBuilder as builder
 use Rattle.book_builder.specs.declared.BuildAnswer.{BuildAnswer}
 use Rattle.book_builder.specs.declared.BuildAnswer.the-variants as build
-use Rattle.book_builder.proofs.build.Kinds as build-kinds
-use Rattle.book_builder.proofs.build.Reads as build-reads
 use Rattle.locator.specs.Locator as locator
 use Rattle.locator.specs.declared.LocatorAnswer.{LocatorAnswer}
 use Rattle.locator.specs.declared.LocatorAnswer.the-variants as table-answer
 use Rattle.locator.specs.declared.PositionAnswer.{PositionAnswer}
 use Rattle.locator.specs.declared.PositionAnswer.the-variants as position-answer
-use Rattle.locator.proofs.read.Kinds as locator-kinds
-use Rattle.locator.proofs.read.Reads as locator-reads
-use Rattle.locator.proofs.position.Kinds as position-kinds
-use Rattle.locator.proofs.position.Reads as position-reads
 use Rattle.media.specs.Media as media
 use Rattle.media.specs.declared.MediaAnswer.{MediaAnswer}
 use Rattle.media.specs.declared.MediaAnswer.the-variants as media-answer
-use Rattle.media.proofs.read.Kinds as media-kinds
-use Rattle.media.proofs.read.Reads as media-reads
 use Rattle.map_name.specs.Name as name
 use Rattle.map_name.specs.declared.NameAnswer.{NameAnswer}
 use Rattle.map_name.specs.declared.NameAnswer.the-variants as name-answer
 use Rattle.map_name.specs.declared.TwoAnswer.{TwoAnswer}
 use Rattle.map_name.specs.declared.TwoAnswer.the-variants as two-answer
-use Rattle.map_name.proofs.name_place.Kinds as name-place-kinds
-use Rattle.map_name.proofs.name_place.Reads as name-place-reads
-use Rattle.map_name.proofs.name.Kinds as name-kinds
-use Rattle.map_name.proofs.name.Reads as name-reads
-use Rattle.map_name.proofs.name_place_of_two.Kinds as name-place-of-two-kinds
-use Rattle.map_name.proofs.name_place_of_two.Reads as name-place-of-two-reads
-use Rattle.map_name.proofs.name_of_two.Kinds as name-of-two-kinds
-use Rattle.map_name.proofs.name_of_two.Reads as name-of-two-reads
 use Rattle.mpeg.specs.Read as mpeg
 use Rattle.mpeg.specs.declared.MpegAnswer.{MpegAnswer}
 use Rattle.mpeg.specs.declared.MpegAnswer.the-variants as mpeg-answer
-use Rattle.mpeg.proofs.read.Kinds as mpeg-kinds
-use Rattle.mpeg.proofs.read.Reads as mpeg-reads
 use Rattle.mpeg_parameter.specs.declared.ParameterValue.{ParameterValue}
 use Rattle.mpeg_parameter.specs.declared.ParameterValue.the-variants as parameter-value
 use Rattle.map.proofs.Samples.{M}
 use Rattle.paper_readings.proofs.Streams.{S, mute, unlent, B, room, carrying, computed, bytes-needed}
 use Rattle.paper_readings.proofs.Pairs.{located, N, bare, other, pairs}
 use Rattle.mpeg.proofs.Worked.{text}
-
--- of a function with n lifetimes, its parameters' kinds, its result's, and its contract: x is what is seen of an outcome that the contract allows on such arguments
-pub record Allows (n : ℕ) (ps : List (PK n)) (r : RK n) (Post : Out n ps r) (A : Type 0) (On : (κs : Lfts n) → Dens κs ps → Type 0)
-    (seen : (κs : Lfts n) → resT r κs .Denot → AtExit (endedOf n ps r) κs → A) (x : A) : Type 0 where
-  pub lifetimes : Lfts n
-  pub arguments : Dens lifetimes ps
-  pub result : resT r lifetimes .Denot
-  pub exit : AtExit (endedOf n ps r) lifetimes
-  pub on : On lifetimes arguments
-  pub post : Post lifetimes arguments result exit
-  pub it : seen lifetimes result exit ≡ x
+use Rattle.paper_readings.specs.Calls.{Checks, Seeks, Looks, Builds, LeavesBuilt, Tables, Positions, Preambles, Places, PlacesOfTwo, Names, NamesOfTwo, Parameters}
 
 -- bytes as a slice lends them
 abbrev lent : List ℕ → RefT (List ℕ)
@@ -108,9 +71,6 @@ both : {A : Type 0} {x v w : A} → x ≡ v → x ≡ w → v ≡ w
 both p q = sym p ∙ q
 
 -- `stream::check` on a stream: none refuses all, and none gives one number of packets, or one refusal, on all
-abbrev pub Checks : List ℕ → CheckAnswer → Type 0
-Checks s = Allows 1 check-kinds.ps check-kinds.r check-reads.Post CheckAnswer (λ κs a. a .0 .now ≡ s) (λ κs x t. x)
-
 pub check-is : (s : List ℕ) (x : CheckAnswer) → Checks s x → x ≡ stream.checkOf s
 check-is s x g = sym (g .it) ∙ g .post ∙ rw (g .on)
 
@@ -125,9 +85,6 @@ pub no-constant-check : (x : CheckAnswer) → Checks S x → Checks mute x → �
 no-constant-check x g h = let e = both (check-is S x g ∙ computed .checked) (check-is mute x h ∙ computed .mute-checked) in let z : _≡_ {A = ℕ} 5 3 = cc in omega arith
 
 -- `stream::seek` for a track and a field: none refuses all, none gives one offset for all fields, and none finds all
-abbrev pub Seeks : List ℕ → ℕ → ℕ → SeekAnswer → Type 0
-Seeks s track field = Allows 1 seek-kinds.ps seek-kinds.r seek-reads.Post SeekAnswer (λ κs a. (a .0 .now ≡ s) × (a .1 .0 ≡ track) × (a .1 .1 .0 ≡ field)) (λ κs x t. x)
-
 pub seek-is : (s : List ℕ) (track field : ℕ) (x : SeekAnswer) → Seeks s track field x → x ≡ stream.seekOf s track field
 seek-is s track field x g = sym (g .it) ∙ g .post ∙ rw (g .on .0, g .on .1, g .on .2)
 
@@ -145,9 +102,6 @@ pub no-finding-seek : (o : ℕ) → Seeks S 1 2 (seek.At o) → ⊥
 no-finding-seek o g = let e = seek-is S 1 2 (seek.At o) g ∙ computed .no-field in let z : _≡_ {A = ℕ} 0 1 = cc in omega arith
 
 -- `book::lookup` in a book: the same
-abbrev pub Looks : List ℕ → ℕ → ℕ → LookupAnswer → Type 0
-Looks s track field = Allows 1 lookup-kinds.ps lookup-kinds.r lookup-reads.Post LookupAnswer (λ κs a. (a .0 .now ≡ s) × (a .1 .0 ≡ track) × (a .1 .1 .0 ≡ field)) (λ κs x t. x)
-
 pub lookup-is : (s : List ℕ) (track field : ℕ) (x : LookupAnswer) → Looks s track field x → x ≡ book.lookupOf s track field
 lookup-is s track field x g = sym (g .it) ∙ g .post ∙ rw (g .on .0, g .on .1, g .on .2)
 
@@ -165,9 +119,6 @@ pub no-finding-lookup : (o : ℕ) → Looks B 1 2 (lookup.At o) → ⊥
 no-finding-lookup o g = let e = lookup-is B 1 2 (lookup.At o) g ∙ computed .no-record in let z : _≡_ {A = ℕ} 0 1 = cc in omega arith
 
 -- `book_builder::build` from a stream into a buffer: its answer; none refuses all, and none gives one number of records on all
-abbrev pub Builds : List ℕ → List ℕ → BuildAnswer → Type 0
-Builds l s = Allows 2 build-kinds.ps build-kinds.r build-reads.Post BuildAnswer (λ κs a. (a .0 .now ≡ l) × (a .1 .0 .now ≡ s)) (λ κs x t. x)
-
 pub build-is : (l s : List ℕ) (x : BuildAnswer) → Builds l s x → x ≡ builder.buildAnswer l s
 build-is l s x g = sym (g .it) ∙ g .post .0 ∙ rw (g .on .0, g .on .1)
 
@@ -182,20 +133,17 @@ pub no-constant-build : (x : BuildAnswer) → Builds (room 33) S x → Builds (r
 no-constant-build x g h = let e = both (build-is (room 33) S x g ∙ computed .two) (build-is (room 33) mute x h ∙ computed .none) in let z : _≡_ {A = ℕ} 2 0 = cc in omega arith
 
 -- and what the buffer holds then: none writes nothing, and none writes one book for all streams
-abbrev pub Leaves : List ℕ → List ℕ → List ℕ → Type 0
-Leaves l s = Allows 2 build-kinds.ps build-kinds.r build-reads.Post (List ℕ) (λ κs a. (a .0 .now ≡ l) × (a .1 .0 .now ≡ s)) (λ κs x t. t .0 .now)
-
-pub left-is : (l s o : List ℕ) → Leaves l s o → o ≡ builder.builtIn l s
+pub left-is : (l s o : List ℕ) → LeavesBuilt l s o → o ≡ builder.builtIn l s
 left-is l s o g = sym (g .it) ∙ g .post .1 ∙ rw (g .on .0, g .on .1)
 
-pub left-gives : (l s : List ℕ) → Leaves l s (builder.builtIn l s)
+pub left-gives : (l s : List ℕ) → LeavesBuilt l s (builder.builtIn l s)
 left-gives l s =
     record { lifetimes = ([], ([], tt)); arguments = (lent l, (lent s, tt)); result = builder.buildAnswer l s; exit = (lent (builder.builtIn l s), (lent s, tt)); on = (refl, refl); post = (refl, refl); it = refl }
 
-pub no-idle-build : Leaves (room 33) S (room 33) → ⊥
+pub no-idle-build : LeavesBuilt (room 33) S (room 33) → ⊥
 no-idle-build g = let e = ap firstByte (left-is (room 33) S (room 33) g ∙ computed .written) in omega arith
 
-pub no-constant-book : (o : List ℕ) → Leaves (room 33) S o → Leaves (room 33) mute o → ⊥
+pub no-constant-book : (o : List ℕ) → LeavesBuilt (room 33) S o → LeavesBuilt (room 33) mute o → ⊥
 no-constant-book o g h = let e = ap firstByte (both (left-is (room 33) S o g ∙ computed .written) (left-is (room 33) mute o h ∙ computed .mute-written)) in omega arith
 
 -- of a list that no slice lends the three contracts allow two answers, so `agree` of book_builder needs what it asks of the lent stream
@@ -204,9 +152,6 @@ two-without-bytes =
     (rw (bytes-needed .0) at (build-gives (room 16) unlent), rw (bytes-needed .1) at (lookup-gives (builder.builtIn (room 16) unlent) 1 4294967296), rw (bytes-needed .2) at (seek-gives unlent 1 4294967296))
 
 -- `locator::read`: step and count of an FLT
-abbrev pub Tables : List ℕ → ℕ → LocatorAnswer → Type 0
-Tables s at = Allows 1 locator-kinds.ps locator-kinds.r locator-reads.Post LocatorAnswer (λ κs a. (a .0 .now ≡ s) × (a .1 .0 ≡ at)) (λ κs x t. x)
-
 pub table-is : (s : List ℕ) (at : ℕ) (x : LocatorAnswer) → Tables s at x → x ≡ locator.tableAt s at
 table-is s at x g = sym (g .it) ∙ g .post ∙ rw (g .on .0, g .on .1)
 
@@ -221,9 +166,6 @@ pub no-constant-table : (x : LocatorAnswer) → Tables (located 40 64) 0 x → T
 no-constant-table x g h = let e = ap stepOf (both (table-is (located 40 64) 0 x g ∙ pairs .table-40) (table-is (located 80 64) 0 x h ∙ pairs .table-80)) in omega arith
 
 -- `locator::position`: for a distance
-abbrev pub Positions : List ℕ → ℕ → ℕ → PositionAnswer → Type 0
-Positions s at d = Allows 1 position-kinds.ps position-kinds.r position-reads.Post PositionAnswer (λ κs a. (a .0 .now ≡ s) × (a .1 .0 ≡ at) × (a .1 .1 .0 ≡ d)) (λ κs x t. x)
-
 pub position-is : (s : List ℕ) (at d : ℕ) (x : PositionAnswer) → Positions s at d x → x ≡ locator.positionAt s at d
 position-is s at d x g = sym (g .it) ∙ g .post ∙ rw (g .on .0, g .on .1, g .on .2)
 
@@ -238,9 +180,6 @@ pub no-constant-position : (x : PositionAnswer) → Positions (located 40 64) 0 
 no-constant-position x g h = let e = both (position-is (located 40 64) 0 39 x g ∙ pairs .position-64) (position-is (located 40 65) 0 39 x h ∙ pairs .position-65) in let z : _≡_ {A = ℕ} 65536 66560 = cc in omega arith
 
 -- `media::read`: the preamble of a media packet
-abbrev pub Preambles : List ℕ → ℕ → MediaAnswer → Type 0
-Preambles s at = Allows 1 media-kinds.ps media-kinds.r media-reads.Post MediaAnswer (λ κs a. (a .0 .now ≡ s) × (a .1 .0 ≡ at)) (λ κs x t. x)
-
 pub preamble-is : (s : List ℕ) (at : ℕ) (x : MediaAnswer) → Preambles s at x → x ≡ media.preambleAt s at
 preamble-is s at x g = sym (g .it) ∙ g .post ∙ rw (g .on .0, g .on .1)
 
@@ -255,9 +194,6 @@ pub no-constant-preamble : (x : MediaAnswer) → Preambles (carrying 0) 0 x → 
 no-constant-preamble x g h = let e = ap fieldOf (both (preamble-is (carrying 0) 0 x g ∙ pairs .field-0) (preamble-is (carrying 1) 0 x h ∙ pairs .field-1)) in omega arith
 
 -- `name::name_place`: where a track's name stands
-abbrev pub Places : List ℕ → ℕ → NameAnswer → Type 0
-Places s id = Allows 1 name-place-kinds.ps name-place-kinds.r name-place-reads.Post NameAnswer (λ κs a. (a .0 .now ≡ s) × (a .1 .0 ≡ id)) (λ κs x t. x)
-
 pub place-is : (s : List ℕ) (id : ℕ) (x : NameAnswer) → Places s id x → x ≡ name.nameAt s id
 place-is s id x g = sym (g .it) ∙ g .post ∙ rw (g .on .0, g .on .1)
 
@@ -272,9 +208,6 @@ pub no-constant-place : (x : NameAnswer) → Places M 1 x → Places N 1 x → �
 no-constant-place x g h = let e = both (place-is M 1 x g ∙ pairs .name-M) (place-is N 1 x h ∙ pairs .name-N) in let z : _≡_ {A = ℕ} 34 28 = cc in omega arith
 
 -- `name::name_place_of_two`: where it stands in one of two maps
-abbrev pub PlacesOfTwo : List ℕ → List ℕ → ℕ → TwoAnswer → Type 0
-PlacesOfTwo opening closing id = Allows 2 name-place-of-two-kinds.ps name-place-of-two-kinds.r name-place-of-two-reads.Post TwoAnswer (λ κs a. (a .0 .now ≡ opening) × (a .1 .0 .now ≡ closing) × (a .1 .1 .0 ≡ id)) (λ κs x t. x)
-
 pub place-of-two-is : (opening closing : List ℕ) (id : ℕ) (x : TwoAnswer) → PlacesOfTwo opening closing id x → x ≡ name.nameOfTwoAt opening closing id
 place-of-two-is opening closing id x g = sym (g .it) ∙ g .post ∙ rw (g .on .0, g .on .1, g .on .2)
 
@@ -289,9 +222,6 @@ pub no-constant-place-of-two : (x : TwoAnswer) → PlacesOfTwo M N 1 x → Place
 no-constant-place-of-two x g h = let e = both (place-of-two-is M N 1 x g ∙ pairs .closing) (place-of-two-is M bare 1 x h ∙ pairs .opening) in let z : _≡_ {A = ℕ} 0 1 = cc in omega arith
 
 -- `name::name`: its bytes; none hands out nothing each time, and none one name
-abbrev pub Names : List ℕ → ℕ → List ℕ → Type 0
-Names s id = Allows 1 name-kinds.ps name-kinds.r name-reads.Post (List ℕ) (λ κs a. (a .0 .now ≡ s) × (a .1 .0 ≡ id)) (λ κs x t. x .now)
-
 pub name-is : (s : List ℕ) (id : ℕ) (x : List ℕ) → Names s id x → x ≡ name.nameBytes s (name.nameAt s id)
 name-is s id x g = sym (g .it) ∙ g .post .0 ∙ rw (g .on .0, g .on .1)
 
@@ -308,9 +238,6 @@ no-constant-name x g h =
     omega arith
 
 -- `name::name_of_two`: the same of two maps
-abbrev pub NamesOfTwo : List ℕ → List ℕ → ℕ → List ℕ → Type 0
-NamesOfTwo opening closing id = Allows 1 name-of-two-kinds.ps name-of-two-kinds.r name-of-two-reads.Post (List ℕ) (λ κs a. (a .0 .now ≡ opening) × (a .1 .0 .now ≡ closing) × (a .1 .1 .0 ≡ id)) (λ κs x t. x .now)
-
 pub name-of-two-is : (opening closing : List ℕ) (id : ℕ) (x : List ℕ) → NamesOfTwo opening closing id x → x ≡ name.twoBytes opening closing (name.nameOfTwoAt opening closing id)
 name-of-two-is opening closing id x g = sym (g .it) ∙ g .post .0 ∙ rw (g .on .0, g .on .1, g .on .2)
 
@@ -327,9 +254,6 @@ no-constant-name-of-two x g h =
     omega arith
 
 -- `mpeg::read`: the parameters of a text
-abbrev pub Parameters : List ℕ → MpegAnswer → Type 0
-Parameters s = Allows 1 mpeg-kinds.ps mpeg-kinds.r mpeg-reads.Post MpegAnswer (λ κs a. a .0 .now ≡ s) (λ κs x t. x)
-
 pub parameters-is : (s : List ℕ) (x : MpegAnswer) → Parameters s x → x ≡ mpeg.readOf s
 parameters-is s x g = sym (g .it) ∙ g .post ∙ rw (g .on)
 

@@ -7,7 +7,7 @@ use lib.Dec.{eqb}
 use Rattle.plate.specs.Choice.{pick}
 use Rattle.plate.specs.Plate.{refusal}
 use Rattle.plate.specs.declared.Refusal.{Refusal}
-use Rattle.packet.specs.Packet.{headerAt}
+use Rattle.packet.specs.Packet.{headerAt, typeFlt, typeMap, typeMedia}
 use Rattle.packet.specs.declared.PacketAnswer.{PacketAnswer}
 use Rattle.packet.specs.declared.PacketAnswer.the-variants as packet
 use Rattle.map_items.specs.declared.Verdict.{Verdict}
@@ -31,28 +31,28 @@ abbrev pub plainPiece : ℕ → ℕ → PieceAnswer
 plainPiece packetType len = Whole (record { «packet_type» = packetType; len = len; «media_type» = 0; track = 0; field = 0 })
 
 abbrev pub ofMap : ℕ → ℕ → Verdict → PieceAnswer
-ofMap at len verdict.Accepted = plainPiece 0xBC len
+ofMap at len verdict.Accepted = plainPiece typeMap len
 ofMap at len (verdict.Refused r) = Refused (moved at r)
 
 abbrev pub ofLocator : ℕ → ℕ → LocatorAnswer → PieceAnswer
-ofLocator at len (locator.Table t) = plainPiece 0xFC len
+ofLocator at len (locator.Table t) = plainPiece typeFlt len
 ofLocator at len (locator.Refused r) = Refused (moved at r)
 
 abbrev pub ofMedia : ℕ → ℕ → MediaAnswer → PieceAnswer
-ofMedia at len (media.Preamble m) = Whole (record { «packet_type» = 0xBF; len = len; «media_type» = m .«media_type»; track = m .track; field = m .field })
+ofMedia at len (media.Preamble m) = Whole (record { «packet_type» = typeMedia; len = len; «media_type» = m .«media_type»; track = m .track; field = m .field })
 ofMedia at len (media.Refused r) = Refused (moved at r)
 
 -- maps whole, the FLT's step, count and room, the media preamble; EOS, UMF and reserved packets are not opened
 unfoldable pub contentOf : List ℕ → ℕ → ℕ → PieceAnswer
 contentOf p at packetType =
-    pick (eqb packetType 0xBF) (ofMedia at (length p) (preambleOf p 0))
-    (pick (eqb packetType 0xBC) (ofMap at (length p) (mapVerdict p))
-    (pick (eqb packetType 0xFC) (ofLocator at (length p) (tableOf p))
+    pick (eqb packetType typeMedia) (ofMedia at (length p) (preambleOf p 0))
+    (pick (eqb packetType typeMap) (ofMap at (length p) (mapVerdict p))
+    (pick (eqb packetType typeFlt) (ofLocator at (length p) (tableOf p))
     (plainPiece packetType (length p))))
 
 -- 17: the first packet is a map
 unfoldable pub opens : Bool → ℕ → Bool
-opens true packetType = eqb packetType 0xBC
+opens true packetType = eqb packetType typeMap
 opens false packetType = true
 
 -- header faults, 17, content faults

@@ -5,7 +5,8 @@ use mathlib.Core.List.{List, _++_}
 use lib.ListN.{length, take, drop}
 use lib.Seq.{length-take-le, take-append-seam, drop-append-seam}
 use Rattle.map_answer.specs.declared.Track.{Track}
-use Rattle.map_records.specs.Fill.{recordsAt, answerFor, lentAfter, recordsToWrite, Filled}
+use Rattle.map_records.specs.Fill.{recordsAt, answerFor, lentAfter, Filled}
+use Rattle.map_records.specs.Inside.{recordsToWrite}
 use Rattle.map_records.proofs.Laws.{length-upTo, writes}
 use Rattle.probe_records.specs.Lent.{afterFill}
 

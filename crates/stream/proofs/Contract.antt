@@ -12,7 +12,7 @@ use Rattle.stream.specs.declared.SeekAnswer.the-variants as seek
 use lib.ListN.{length}
 use Rattle.stream.proofs.Counted as counted
 use Rattle.stream.proofs.Sought as sought
-use Rattle.stream.proofs.Sought.{None, First}
+use Rattle.stream.specs.Sought.{None, First}
 use Rattle.stream.proofs.check.Kinds as check-kinds
 use Rattle.stream.proofs.check.Reads as check-reads
 use Rattle.stream.proofs.seek.Kinds as seek-kinds

@@ -18,7 +18,8 @@ use Rattle.order.specs.Order.{started, progressAfter, stepOf}
 use Rattle.order.specs.declared.Progress.{Progress}
 use Rattle.order.specs.declared.Step.the-variants as step
 use Rattle.order.proofs.Laws.{step-next, step-ended}
-use Rattle.stream.specs.Stream.{Packets, runsOut, closed, typesAfter, onPiece, packetsFrom, packets, ranOut, onStep, judgePackets, checkOf, carriesPiece, firstOf, orFirst, firstHere, collect, runOf, orNotThere, ifChecked, seekOf}
+use Rattle.stream.specs.Stream.{Packets, runsOut, closed, typesAfter, onPiece, packetsFrom, packets, ranOut, onStep, judgePackets, checkOf, carriesPiece, firstOf, orNotThere, ifChecked, seekOf}
+use Rattle.stream.specs.Inside.{orFirst, firstHere, collect, runOf}
 use Rattle.stream.specs.declared.Spot.{Spot}
 use Rattle.stream.specs.declared.Spot.the-variants as spot
 use Rattle.stream.specs.declared.CheckAnswer.{CheckAnswer}

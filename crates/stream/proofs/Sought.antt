@@ -8,26 +8,12 @@ use Rattle.plate.specs.Choice.{pick}
 use Rattle.plate.specs.Plate.{refusal}
 use Rattle.plate.specs.declared.Refusal.{Refusal}
 use Rattle.stream.specs.Stream.{Placed, packets, checkOf, carries, firstOf, orNotThere, ifChecked, seekOf}
+use Rattle.stream.specs.Sought.{None, First}
 use Rattle.stream.specs.declared.Spot.{Spot}
 use Rattle.stream.specs.declared.Spot.the-variants as spot
 use Rattle.stream.specs.declared.CheckAnswer.{CheckAnswer}
 use Rattle.stream.specs.declared.CheckAnswer.the-variants as check
 use Rattle.stream.specs.declared.SeekAnswer.the-variants as seek
-
--- no packet of a list carries the field
-abbrev pub None : ℕ → ℕ → List Placed → Type 0
-None track field [] = Unit {0}
-None track field (x ∷ xs) = (carries track field x ≡ false) × None track field xs
-
--- a packet of a list stands at an offset and carries the field, and none before it does
-pub record First (track field offset : ℕ) (xs : List Placed) : Type 0 where
-  pub earlier : List Placed
-  pub it : Placed
-  pub later : List Placed
-  pub all : xs ≡ earlier ++ (it ∷ later)
-  pub stands : it .at ≡ offset
-  pub carrier : carries track field it ≡ true
-  pub none : None track field earlier
 
 module _ (track field : ℕ) where
   -- one packet more in front, which does not carry

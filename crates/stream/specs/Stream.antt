@@ -4,6 +4,7 @@ use mathlib.Core.Bool.{Bool, true, false}
 use mathlib.Core.List.{List, [], _∷_}
 use lib.ListN.{length, getD, take, drop, replicate}
 use lib.Dec.{eqb, ltb}
+use Rattle.packet.specs.Packet.{typeEos, typeMap, typeMedia}
 use Rattle.plate.specs.Choice.{pick}
 use Rattle.plate.specs.Ended.{Ended, none, inFront}
 use Rattle.plate.specs.Plate.{refusal}
@@ -24,8 +25,6 @@ use Rattle.stream.specs.declared.CheckAnswer.{CheckAnswer}
 use Rattle.stream.specs.declared.CheckAnswer.the-variants as check
 use Rattle.stream.specs.declared.SeekAnswer.{SeekAnswer}
 use Rattle.stream.specs.declared.SeekAnswer.the-variants as seek
-use Rattle.stream.specs.declared.Run.{Run}
-use Rattle.stream.specs.declared.Run.the-variants as run
 
 -- a packet of a stream: its offset, what it is, and by ID the types that the latest map lists, its own if it is a map
 pub record Placed : Type 0 where
@@ -44,14 +43,14 @@ Packets = Ended Placed End
 
 -- the latest map's types, once a packet has passed
 abbrev pub typesAfter : List ℕ → ℕ → Piece → List ℕ → List ℕ
-typesAfter s at x types = pick (eqb (x .«packet_type») 0xBC) (typesIn (take (x .len) (drop at s))) types
+typesAfter s at x types = pick (eqb (x .«packet_type») typeMap) (typesIn (take (x .len) (drop at s))) types
 
 -- a packet, and what follows it: nothing where it is EOS
 abbrev pub onPiece : List ℕ → ℕ → List ℕ → (List ℕ → ℕ → Packets) → PieceAnswer → Packets
 onPiece s at types next (piece.Refused r) = none (stops r)
 onPiece s at types next (piece.Whole x) =
     inFront (record { at = at; piece = x; types = typesAfter s at x types })
-    (pick (eqb (x .«packet_type») 0xFB) (none closed) (next (typesAfter s at x types) (at + x .len)))
+    (pick (eqb (x .«packet_type») typeEos) (none closed) (next (typesAfter s at x types) (at + x .len)))
 
 -- the packets from an offset on, the first of the stream or not; f is more than the packets that can follow
 unfoldable pub packetsFrom : List ℕ → ℕ → Bool → List ℕ → ℕ → Packets
@@ -93,7 +92,7 @@ checkOf s = judgePackets (length s) started (packets s .list) (packets s .end)
 -- a packet carries field F of track T if its type is known, its ID is T and its field number is F
 unfoldable pub carriesPiece : ℕ → ℕ → Piece → Bool
 carriesPiece track field x =
-    pick (eqb (x .«packet_type») 0xBF) (pick (eqb (x .track) track) (pick (eqb (x .field) field) (knownType (x .«media_type»)) false) false) false
+    pick (eqb (x .«packet_type») typeMedia) (pick (eqb (x .track) track) (pick (eqb (x .field) field) (knownType (x .«media_type»)) false) false) false
 
 abbrev pub carries : ℕ → ℕ → Placed → Bool
 carries track field x = carriesPiece track field (x .piece)
@@ -114,18 +113,3 @@ ifChecked (check.Refused r) a = seek.Refused r
 
 unfoldable pub seekOf : List ℕ → ℕ → ℕ → SeekAnswer
 seekOf s track field = ifChecked (checkOf s) (orNotThere (firstOf track field (packets s .list)))
-
--- what one pass collects: the check's answer, and with it the first carrier
-abbrev pub orFirst : Spot → Spot → Spot
-orFirst (spot.At o) later = spot.At o
-orFirst spot.Nothing later = later
-
-abbrev pub firstHere : ℕ → ℕ → Piece → ℕ → Spot
-firstHere track field x at = pick (carriesPiece track field x) (spot.At at) spot.Nothing
-
-abbrev pub collect : CheckAnswer → Spot → Run
-collect (check.Packets n) first = run.Passed (record { count = n; first = first })
-collect (check.Refused r) first = run.Refused r
-
-unfoldable pub runOf : List ℕ → ℕ → ℕ → Run
-runOf s track field = collect (checkOf s) (firstOf track field (packets s .list))

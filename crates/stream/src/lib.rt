@@ -8,7 +8,8 @@ use map_tracks::Types;
 ghost use mathlib.Core.Path.{_≡_};
 ghost use mathlib.Core.Bool.{true, false};
 ghost use Rattle.plate.specs.Plate.{refusal};
-ghost use Rattle.stream.specs.Stream.{carriesPiece, orFirst, firstHere, ranOut, runOf, checkOf, seekOf};
+ghost use Rattle.stream.specs.Stream.{carriesPiece, ranOut, checkOf, seekOf};
+ghost use Rattle.stream.specs.Inside.{orFirst, firstHere, runOf};
 
 // An offset, if there is one.
 pub enum Spot {

@@ -9,7 +9,8 @@ use Rattle.packet.specs.declared.Packet.{Packet}
 use Rattle.packet.specs.declared.PacketAnswer.the-variants.{Whole, Refused}
 use Rattle.packet.proofs.Laws.{whole, by-header}
 use Rattle.plate.specs.declared.Refusal.{Refusal}
-use Rattle.walker.specs.Walk.{placeAfter, placeOf, Stepped, turnsOf}
+use Rattle.walker.specs.Walk.{placeAfter, placeOf, Stepped}
+use Rattle.walker.specs.Inside.{turnsOf}
 use mathlib.Core.Bool.{Bool, true, false}
 use mathlib.Core.Logic.{_⊎_, inl, inr, ⊎-elim}
 use native.Mathlib.Nat.{zero-add, suc-add}

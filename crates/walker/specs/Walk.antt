@@ -1,10 +1,8 @@
 -- The walker (01, "Packets are also read one after another by a walker that remembers the stream and its place. A refused step leaves the place").
-use Prim.Native.Nat.{ℕ, zero, suc, _+_, _/_}
+use Prim.Native.Nat.{ℕ, zero, suc, _+_}
 use mathlib.Core.Path.{_≡_}
 use mathlib.Core.List.{List}
-use lib.Dec.{ltb}
 use denote.Ref.{RefT, now}
-use Rattle.plate.specs.Choice.{pick}
 use Rattle.packet.specs.Packet.{headerAt}
 use Rattle.packet.specs.declared.PacketAnswer.{PacketAnswer}
 use Rattle.packet.specs.declared.PacketAnswer.the-variants.{Whole, Refused}
@@ -30,11 +28,6 @@ unfoldable pub Stepped : Walker → PacketAnswer → Walker → Type 0
 Stepped w r v =
     (r ≡ headerAt (now (w .stream)) (w .at))
     × (v ≡ record { stream = w .stream; at = placeAfter (w .at) (headerAt (now (w .stream)) (w .at)) })
-
--- of n steps over a stream of some bytes, so many that the others change nothing: where some are left out one was refused, as a packet has 16 bytes at least.
--- It is for the code alone
-unfoldable pub turnsOf : ℕ → ℕ → ℕ
-turnsOf len n = pick (ltb n (len / 16 + 1)) n (len / 16 + 1)
 
 abbrev pub stop : ℕ → PacketAnswer → Stop
 stop at a = record { at = at; answer = a }

@@ -4,7 +4,8 @@ use packet::PacketAnswer;
 ghost use mathlib.Core.Path.{_≡_};
 ghost use lib.ListN.{length};
 ghost use Rattle.packet.specs.Packet.{headerAt};
-ghost use Rattle.walker.specs.Walk.{placeAfter, Made, Stepped, stop, turnsOf, walkOf};
+ghost use Rattle.walker.specs.Walk.{placeAfter, Made, Stepped, stop, walkOf};
+ghost use Rattle.walker.specs.Inside.{turnsOf};
 
 pub struct Walker<'a> {
     pub stream: &'a [u8],

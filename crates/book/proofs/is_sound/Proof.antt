@@ -6,7 +6,7 @@ use borrow.Author.Tests.{lt-ltb, le-ltb, eq-eqb, ne-eqb, le-leb, lt-leb}
 use mathlib.Core.Path.{_∙_}
 use Prim.Native.Nat.{_/_}
 use Rattle.media_type.specs.MediaType.{knownType}
-use Rattle.book.specs.Book.{soundHead}
+use Rattle.book.specs.Inside.{soundHead}
 
 returns : tie.Need-returns
 unfolding soundHead

@@ -17,7 +17,7 @@ use lib.ListN.{length}
 use Rattle.plate.proofs.Tests.{off, on}
 use Rattle.number.specs.Number.{le}
 use Rattle.number.proofs.Laws.{le-lt}
-use Rattle.book.specs.Book.{verdictFrom}
+use Rattle.book.specs.Inside.{verdictFrom}
 use Rattle.book.proofs.Laws.{on-end, next, is-bad, may-stand}
 
 abbrev Inv-loop : tie.InvT-loop

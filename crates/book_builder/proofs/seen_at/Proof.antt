@@ -11,7 +11,7 @@ use Prim.Native.Nat.{_+_}
 use mathlib.Core.Path.{refl}
 use borrow.Author.Tests.{eq-eqb, ne-eqb}
 use Rattle.number.proofs.Laws.{be-lt}
-use Rattle.book_builder.specs.BookBuilder.{seenAt}
+use Rattle.book_builder.specs.Inside.{seenAt}
 
 add-packet-type : tie.Need-add-packet-type
 add-packet-type c = search needs

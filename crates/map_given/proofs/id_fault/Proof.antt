@@ -2,7 +2,7 @@ use borrow.Author.Needs.{needs}
 use Rattle.map_given.proofs.id_fault.Statement.{statement}
 use Rattle.map_given.proofs.id_fault.Tie as tie
 use borrow.Author.Tests.{lt-ltb, le-ltb}
-use Rattle.map_given.specs.Flags.{flagFault}
+use Rattle.map_given.specs.Inside.{flagFault}
 
 returns : tie.Need-returns
 unfolding flagFault

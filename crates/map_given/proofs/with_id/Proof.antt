@@ -2,7 +2,7 @@ use borrow.Author.Needs.{needs}
 use Rattle.map_given.proofs.with_id.Statement.{statement}
 use Rattle.map_given.proofs.with_id.Tie as tie
 use Rattle.plate.proofs.Tests.{tests}
-use Rattle.map_given.specs.Flags.{flagged}
+use Rattle.map_given.specs.Inside.{flagged}
 
 returns : tie.Need-returns
 unfolding flagged

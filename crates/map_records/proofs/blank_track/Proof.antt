@@ -1,7 +1,7 @@
 use Rattle.map_records.proofs.blank_track.Statement.{statement}
 use Rattle.map_records.proofs.blank_track.Tie as tie
 use mathlib.Core.Path.{refl}
-use Rattle.map_records.specs.Fill.{blank}
+use Rattle.map_records.specs.Inside.{blank}
 
 returns : tie.Need-returns
 unfolding blank

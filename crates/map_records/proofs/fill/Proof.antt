@@ -56,7 +56,8 @@ use Rattle.map_answer.proofs.Track.Laws as T′
 use Rattle.map.specs.declared.MapAnswer.{MapAnswer}
 use Rattle.map.proofs.MapAnswer as S
 use Rattle.map.proofs.MapAnswer.Laws as S′
-use Rattle.map_records.specs.Fill.{recordsAt, answerFor, recordsToWrite, blank, Filled}
+use Rattle.map_records.specs.Fill.{recordsAt, answerFor, Filled}
+use Rattle.map_records.specs.Inside.{recordsToWrite, blank}
 use Rattle.map_records.proofs.Laws.{upTo, length-upTo, upTo-more, writes}
 use Rattle.map_records.proofs.answer_for as answers
 use Rattle.map_records.proofs.answer_for.Symbol as answers-def

@@ -1,7 +1,7 @@
 use borrow.Author.Needs.{needs}
 use Rattle.map_records.proofs.to_write.Statement.{statement}
 use Rattle.map_records.proofs.to_write.Tie as tie
-use Rattle.map_records.specs.Fill.{recordsToWrite}
+use Rattle.map_records.specs.Inside.{recordsToWrite}
 
 enum-known-a : tie.Need-enum-known-a
 enum-known-a c = search needs

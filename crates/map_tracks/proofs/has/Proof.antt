@@ -1,7 +1,7 @@
 use borrow.Author.Needs.{needs}
 use Rattle.map_tracks.proofs.has.Statement.{statement}
 use Rattle.map_tracks.proofs.has.Tie as tie
-use Rattle.map_tracks.specs.Seen.{holds}
+use Rattle.map_tracks.specs.Inside.{holds}
 
 wide-requires : tie.Need-wide-requires
 wide-requires c κs = search needs

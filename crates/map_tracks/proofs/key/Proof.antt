@@ -2,7 +2,7 @@ use borrow.Author.Needs.{needs}
 use Rattle.map_tracks.proofs.key.Statement.{statement}
 use Rattle.map_tracks.proofs.key.Tie as tie
 use mathlib.Core.Path.{_∙_}
-use Rattle.map_tracks.specs.Tracks.{keyOf}
+use Rattle.map_tracks.specs.Inside.{keyOf}
 
 bare-requires : tie.Need-bare-requires
 bare-requires c κs = search needs

@@ -4,7 +4,7 @@ use native.Mathlib.Omega.{arith}
 use lib.ListN.{getD-replicate}
 use Prim.Native.Nat.{_-_}
 use mathlib.Core.Bool.{false}
-use Rattle.map_tracks.specs.Seen.{holds}
+use Rattle.map_tracks.specs.Inside.{holds}
 
 returns : tie.Need-returns
 unfolding holds

@@ -6,7 +6,8 @@ use Prim.Native.Nat.{_≤_, _-_, _+_}
 use mathlib.Core.Path.{refl, sym, ap, _∙_}
 use native.Mathlib.Nat.{add-zero, add-sub-cancel-left}
 use lib.ListN.{length, drop}
-use Rattle.map_tracks.specs.Tracks.{splitTracks, tracksOf, listed, isListed, keyedOf}
+use Rattle.map_tracks.specs.Tracks.{splitTracks, tracksOf, listed, isListed}
+use Rattle.map_tracks.specs.Inside.{keyedOf}
 use Rattle.map_tracks.proofs.Listed.{Left, start, on-done, on-short, on-over, on-track, pass-other, pass-listed, here}
 use Rattle.map_tracks.specs.declared.Kth.the-variants.{Record}
 

@@ -11,7 +11,7 @@ use lib.Seq.{getD-set-same, getD-set-other}
 use lib.Dec.{eqb}
 use borrow.Author.Tests.{eqb-true, eqb-false}
 use Rattle.plate.specs.Choice.{pick}
-use Rattle.map_tracks.specs.Seen.{holds}
+use Rattle.map_tracks.specs.Inside.{holds}
 
 added : (flags : List Bool) (id k : ℕ) → length flags ≡ 64 → 0xC0 ≤ id → 0xC0 ≤ k → k < 256
     → getD (set flags (id - 0xC0) true) (k - 0xC0) false ≡ pick (eqb k id) true (getD flags (k - 0xC0) false)

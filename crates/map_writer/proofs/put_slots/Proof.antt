@@ -10,7 +10,7 @@ use Rattle.map_given.specs.Given.{slots}
 use Rattle.map_items.specs.Items.{itemsBytes}
 use Rattle.map_writer.specs.Write.{itemsOf}
 use Rattle.map_writer.proofs.Puts.{SlotsLeft, slot-clean, slot-room, slots-turn, slots-done}
-use Rattle.map_writer.specs.Sizes.{slotSize}
+use Rattle.map_writer.specs.Inside.{slotSize}
 
 abbrev Inv-loop : tie.InvT-loop
 Inv-loop out₀ pos text ws at tag n to₀ place₀ next₀ left₀ out to place next left =

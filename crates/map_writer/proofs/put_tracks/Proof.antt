@@ -7,7 +7,7 @@ use mathlib.Core.Path.{refl, _∙_}
 use lib.ListN.{length}
 use lib.Seq.{sets}
 use Rattle.map_given.specs.Given.{tracksGiven}
-use Rattle.map_writer.specs.Sizes.{tracksBytes}
+use Rattle.map_writer.specs.Inside.{tracksBytes}
 use Rattle.map_writer.proofs.PutTracks.{TracksLeft, track-clean, track-narrow, track-type, track-room, tracks-turn, tracks-done}
 use Rattle.map_given.proofs.Clean.{ids-narrow}
 

@@ -4,7 +4,7 @@ use Rattle.map_writer.proofs.slot_size.Tie as tie
 use borrow.Author.Tests.{lt-ltb, le-ltb, eq-eqb, ne-eqb}
 use Rattle.map_given.specs.Faults.{isEight}
 use mathlib.Core.Path.{sym, _∙_}
-use Rattle.map_writer.specs.Sizes.{slotSize}
+use Rattle.map_writer.specs.Inside.{slotSize}
 
 returns : tie.Need-returns
 unfolding slotSize

@@ -6,7 +6,7 @@ use mathlib.Core.Path.{_≡_, _∙_, ap}
 use Prim.Native.Nat.{_+_, _*_, _≤_, _<_}
 use lib.ListN.{length}
 use Rattle.map_writer.proofs.Laws.{slots-under, slots-size-turn, slots-size-out}
-use Rattle.map_writer.specs.Sizes.{slotSize, slotsSize}
+use Rattle.map_writer.specs.Inside.{slotSize, slotsSize}
 use Rattle.map_given.specs.Given.{slots}
 
 abbrev Inv-loop : tie.InvT-loop

@@ -6,7 +6,7 @@ use mathlib.Core.Path.{_≡_, sym, _∙_}
 use Prim.Native.Nat.{_+_, _*_, _≤_}
 use lib.ListN.{length}
 use Rattle.map_writer.proofs.Laws.{slots-under, tracks-size-turn, tracks-size-out, cap-over, cap-within}
-use Rattle.map_writer.specs.Sizes.{tracksSize}
+use Rattle.map_writer.specs.Inside.{tracksSize}
 use Rattle.map_given.specs.Given.{tracksFrom, tracksGiven}
 
 abbrev Inv-loop : tie.InvT-loop

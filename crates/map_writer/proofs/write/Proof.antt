@@ -10,7 +10,7 @@ use Rattle.packet_writer.proofs.Laws.{part-over, has-room}
 use Rattle.map.specs.Encode.{padding}
 use Rattle.map.proofs.Encoded.{padding-under}
 use Rattle.map_given.specs.Given.{materialSlots, tracksGiven}
-use Rattle.map_writer.specs.Sizes.{slotsSize, tracksSize}
+use Rattle.map_writer.specs.Inside.{slotsSize, tracksSize}
 use Rattle.map_writer.specs.Write.{mapPacket}
 use Rattle.map_writer.proofs.Laws.{slots-under, cap-under, cap-is}
 use Rattle.map_given.proofs.Clean.{clean}

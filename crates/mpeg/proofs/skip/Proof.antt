@@ -5,7 +5,7 @@ use native.Mathlib.Omega.{arith}
 use Prim.Native.Nat.{_<_, _-_}
 use mathlib.Core.Path.{sym, _∙_, refl}
 use lib.ListN.{length}
-use Rattle.mpeg.specs.Steps.{Skipped}
+use Rattle.mpeg.specs.Inside.{Skipped}
 use Rattle.mpeg.proofs.Turns.{next-in}
 use Rattle.mpeg.proofs.Judging.{skip-more}
 

@@ -2,7 +2,7 @@ use borrow.Author.Needs.{needs}
 use Rattle.walker.proofs.turns.Statement.{statement}
 use Rattle.walker.proofs.turns.Tie as tie
 use borrow.Author.Tests.{lt-ltb, le-ltb}
-use Rattle.walker.specs.Walk.{turnsOf}
+use Rattle.walker.specs.Inside.{turnsOf}
 
 add-most : tie.Need-add-most
 add-most c = search needs

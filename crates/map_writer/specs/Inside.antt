@@ -1,4 +1,4 @@
--- How many bytes the items of slots take: what the writer counts before it writes. Of an input with a fault the sizes mean nothing, but stay small enough to be added up.
+-- What serves the code alone: the sizes that the writer counts before it writes.
 use Prim.Native.Nat.{ℕ, _+_}
 use mathlib.Core.List.{List, [], _∷_, map}
 use lib.Dec.{ltb, eqb}

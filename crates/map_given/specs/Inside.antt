@@ -1,4 +1,4 @@
--- The IDs given so far, kept as flags by ID: for the code alone. `faultOf` does not rest on them (proofs/Ids.antt).
+-- What serves the code alone: the IDs seen, as flags.
 use Prim.Native.Nat.{ℕ}
 use mathlib.Core.List.{List}
 use mathlib.Core.Bool.{Bool, true, false}

@@ -1,4 +1,4 @@
--- What the functions inside the reader promise of each other, over the judgeLines of Read.
+-- What the functions inside the reader promise of each other, over the judge of Read.
 use Prim.Native.Nat.{ℕ, _≤_}
 use mathlib.Core.Path.{_≡_}
 use mathlib.Core.List.{List}
