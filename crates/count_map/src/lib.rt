@@ -1,8 +1,8 @@
 // The function for C by which bench/ counts the map reader, with all that it answers; apart from `measure`, as a library that has both compiles the check otherwise.
-use map_answer::Value;
-use map_items::Part;
 use map::MapAnswer;
 use map::MapSays;
+use map_answer::Value;
+use map_items::Part;
 use plate::Refusal;
 ghost use mathlib.Core.Path.{_≡_};
 ghost use Rattle.map.specs.Map.{mapAt};

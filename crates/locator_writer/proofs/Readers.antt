@@ -22,7 +22,7 @@ read-gives now at x g = rw (← g .bytes, ← g .place) (g .post)
 position-gives : (now : List ℕ) (at d : ℕ) (y : PositionAnswer) → PositionGives now at d y → y ≡ positionAt now at d
 position-gives now at d y g = rw (← g .bytes, ← g .place, ← g .distance) (g .post)
 
-readers : (out : List ℕ) (at step : ℕ) (ns : List ℕ) (n : ℕ) (now : List ℕ) → ReadBack out at step ns n now → Readers now at step ns
+pub readers : (out : List ℕ) (at step : ℕ) (ns : List ℕ) (n : ℕ) (now : List ℕ) → ReadBack out at step ns n now → Readers now at step ns
 readers out at step ns n now b =
     record {
       read = λ x g. read-gives now at x g ∙ b .table;

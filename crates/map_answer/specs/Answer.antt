@@ -26,7 +26,7 @@ unfoldable pub valueOf : Found → Value
 valueOf missing = value.Absent
 valueOf (found p v) = pick (eqb (length v) 4) (value.Is (be v 0 4)) value.Absent
 
--- the values of Table 6: rate (50) 1 to 8; lines (51) 1, 2, 4, 6; fields (52) 1, 2
+-- the values of Table 6: rate (50) 1 to 8; lines (51) 1, 2, 4, 6; fields (52) 1, 2; another tag has none
 unfoldable pub allowed : ℕ → ℕ → Bool
 allowed tag n =
     pick (eqb tag 0x50) (within 1 8 n)

@@ -1,9 +1,9 @@
 // Track names, handed out as the part of the lent map that holds them, without the closing 00.
 use map_items::Part;
 use map_items::Verdict;
+use map_tracks::Kth;
 use packet::PacketAnswer;
 use plate::Refusal;
-use map_tracks::Kth;
 ghost use mathlib.Core.Path.{_≡_};
 ghost use denote.Ref.{ptr};
 ghost use Prim.Native.Nat.{_≤_};

@@ -1,13 +1,13 @@
 // The map reader into lent track records: one record for each listed track, in map order.
 // `fill` takes a slice of structs, so it is proved by hand, and thin: what it answers, how many records it writes and what each holds are functions by value.
+use map::MapAnswer;
+use map::MapSays;
 use map_answer::Code;
 use map_answer::Track;
 use map_answer::Value;
 use map_items::Part;
-use map::MapAnswer;
-use map::MapSays;
-use packet::PacketAnswer;
 use map_tracks::Kth;
+use packet::PacketAnswer;
 ghost use mathlib.Core.Path.{_≡_};
 ghost use lib.ListN.{length, getD};
 ghost use Rattle.map_records.specs.Fill.{recordsAt, withRoom, answerFor, Filled};

@@ -213,7 +213,9 @@ pub fn record_of_id(s: &[u8], base: usize, id: usize) -> Kth
 pub fn types_by_id(s: &[u8]) -> Types
     ensures { λ r. ⌜ r .«media_types» ≡ typesOf (replicate 64 0) (tracksOf (now (s .entry)) .list) ⌝ }
 {
-    let mut table = Types { media_types: [0u8; 64] };
+    let mut table = Types {
+        media_types: [0u8; 64],
+    };
     let mut at: usize = 0;
     while at < s.len() {
         let left = s.len() - at;

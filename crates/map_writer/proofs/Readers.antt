@@ -110,7 +110,7 @@ module _ (out : List ℕ) (at : ℕ) (text ms ts : List ℕ) (n : ℕ) (now : Li
       let a = too-few now at (length ys) m (b .read) (omega (arith, count)) in
       (f .0 ∙ a, f .1 ∙ rw a)
 
-  readers : Readers now at n text ms ts
+  pub readers : Readers now at n text ms ts
   readers =
       record {
         read = λ x g. rw (b .stands, read-gives now at x g ∙ b .read) says;

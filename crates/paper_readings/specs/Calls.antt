@@ -5,6 +5,25 @@ use mathlib.Core.List.{List}
 use contract.Lifetimes.{Lfts}
 use borrow.Fn.Kinds.{PK, RK, Out, endedOf, resT, Dens}
 use denote.Triple.Clauses.{AtExit}
+use Rattle.packet.specs.declared.PacketAnswer.{PacketAnswer}
+use Rattle.packet.proofs.header.Kinds as header-kinds
+use Rattle.packet.proofs.header.Reads as header-reads
+use Rattle.packet.proofs.of_type.Kinds as of-type-kinds
+use Rattle.packet.proofs.of_type.Reads as of-type-reads
+use Rattle.walker.specs.declared.Stop.{Stop}
+use Rattle.walker.proofs.walk.Kinds as walk-kinds
+use Rattle.walker.proofs.walk.Reads as walk-reads
+use Rattle.map.specs.declared.MapAnswer.{MapAnswer}
+use Rattle.map.specs.declared.TrackAnswer.{TrackAnswer}
+use Rattle.map.proofs.read.Kinds as map-kinds
+use Rattle.map.proofs.read.Reads as map-reads
+use Rattle.map.proofs.track.Kinds as track-kinds
+use Rattle.map.proofs.track.Reads as track-reads
+use Rattle.packet_writer.specs.declared.WriteAnswer.{WriteAnswer}
+use Rattle.map_writer.proofs.write.Kinds as map-write-kinds
+use Rattle.map_writer.proofs.write.Reads as map-write-reads
+use Rattle.locator_writer.proofs.write.Kinds as locator-write-kinds
+use Rattle.locator_writer.proofs.write.Reads as locator-write-reads
 use Rattle.stream.specs.declared.CheckAnswer.{CheckAnswer}
 use Rattle.stream.specs.declared.SeekAnswer.{SeekAnswer}
 use Rattle.stream.proofs.check.Kinds as check-kinds
@@ -50,6 +69,24 @@ pub record Allows (n : ℕ) (ps : List (PK n)) (r : RK n) (Post : Out n ps r) (A
   pub on : On lifetimes arguments
   pub post : Post lifetimes arguments result exit
   pub it : seen lifetimes result exit ≡ x
+
+-- `packet::header` and `packet::of_type` at a position
+abbrev pub Headers : List ℕ → ℕ → PacketAnswer → Type 0
+Headers s at = Allows 1 header-kinds.ps header-kinds.r header-reads.Post PacketAnswer (λ κs a. (a .0 .now ≡ s) × (a .1 .0 ≡ at)) (λ κs x t. x)
+
+abbrev pub OfType : List ℕ → ℕ → ℕ → PacketAnswer → Type 0
+OfType s at type = Allows 1 of-type-kinds.ps of-type-kinds.r of-type-reads.Post PacketAnswer (λ κs a. (a .0 .now ≡ s) × (a .1 .0 ≡ at) × (a .1 .1 .0 ≡ type)) (λ κs x t. x)
+
+-- `walker::walk` from a place, n steps
+abbrev pub Walks : List ℕ → ℕ → ℕ → Stop → Type 0
+Walks s at n = Allows 1 walk-kinds.ps walk-kinds.r walk-reads.Post Stop (λ κs a. (a .0 .now ≡ s) × (a .1 .0 ≡ at) × (a .1 .1 .0 ≡ n)) (λ κs x t. x)
+
+-- `map::read` at a position, and `map::track` there, for the track of a number
+abbrev pub ReadsMap : List ℕ → ℕ → MapAnswer → Type 0
+ReadsMap s at = Allows 1 map-kinds.ps map-kinds.r map-reads.Post MapAnswer (λ κs a. (a .0 .now ≡ s) × (a .1 .0 ≡ at)) (λ κs x t. x)
+
+abbrev pub ReadsTrack : List ℕ → ℕ → ℕ → TrackAnswer → Type 0
+ReadsTrack s at k = Allows 1 track-kinds.ps track-kinds.r track-reads.Post TrackAnswer (λ κs a. (a .0 .now ≡ s) × (a .1 .0 ≡ at) × (a .1 .1 .0 ≡ k)) (λ κs x t. x)
 
 -- `stream::check` on a stream
 abbrev pub Checks : List ℕ → CheckAnswer → Type 0
@@ -102,3 +139,20 @@ NamesOfTwo opening closing id = Allows 1 name-of-two-kinds.ps name-of-two-kinds.
 -- `mpeg::read` of a text
 abbrev pub Parameters : List ℕ → MpegAnswer → Type 0
 Parameters s = Allows 1 mpeg-kinds.ps mpeg-kinds.r mpeg-reads.Post MpegAnswer (λ κs a. a .0 .now ≡ s) (λ κs x t. x)
+
+-- what a call that is lent a buffer leaves: the answer, and what the buffer then holds. `book_builder::build` into a buffer, from a stream
+abbrev pub BuildsInto : List ℕ → List ℕ → BuildAnswer → List ℕ → Type 0
+BuildsInto l s x o =
+    Allows 2 build-kinds.ps build-kinds.r build-reads.Post (BuildAnswer × List ℕ) (λ κs a. (a .0 .now ≡ l) × (a .1 .0 .now ≡ s)) (λ κs x t. (x, t .0 .now)) (x, o)
+
+-- `map_writer::write` into a buffer at a place: the text, the material's words and the tracks' words
+abbrev pub WritesMap : List ℕ → ℕ → List ℕ → List ℕ → List ℕ → WriteAnswer → List ℕ → Type 0
+WritesMap out at text ms ts x o =
+    Allows 4 map-write-kinds.ps map-write-kinds.r map-write-reads.Post (WriteAnswer × List ℕ)
+    (λ κs a. (a .0 .now ≡ out) × (a .1 .0 ≡ at) × (a .1 .1 .0 .now ≡ text) × (a .1 .1 .1 .0 .now ≡ ms) × (a .1 .1 .1 .1 .0 .now ≡ ts)) (λ κs x t. (x, t .0 .now)) (x, o)
+
+-- `locator_writer::write` into a buffer at a place: the step and the entries
+abbrev pub WritesLocator : List ℕ → ℕ → ℕ → List ℕ → WriteAnswer → List ℕ → Type 0
+WritesLocator out at step ns x o =
+    Allows 2 locator-write-kinds.ps locator-write-kinds.r locator-write-reads.Post (WriteAnswer × List ℕ)
+    (λ κs a. (a .0 .now ≡ out) × (a .1 .0 ≡ at) × (a .1 .1 .0 ≡ step) × (a .1 .1 .1 .0 .now ≡ ns)) (λ κs x t. (x, t .0 .now)) (x, o)

@@ -1,6 +1,6 @@
 // A piece of a stream: what one packet is to the rules of streams, or its first fault: of its header, 17, of its content.
-use map_items::Verdict;
 use locator::LocatorAnswer;
+use map_items::Verdict;
 use media::MediaAnswer;
 use packet::PacketAnswer;
 use plate::Refusal;

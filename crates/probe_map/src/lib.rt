@@ -1,11 +1,11 @@
 // The probe's answer of the map reader with n lent records, and the records after it.
+use map::MapAnswer;
+use map::TrackAnswer;
 use map_answer::Code;
 use map_answer::Track;
 use map_answer::Value;
 use map_items::Part;
 use probe_records::After;
-use map::MapAnswer;
-use map::TrackAnswer;
 ghost use Prim.Native.Nat.{_≤_};
 
 // What each record holds before the call: no map gives it.

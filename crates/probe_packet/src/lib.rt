@@ -7,7 +7,13 @@ use packet::PacketAnswer;
 
 fn packet_words(out: &mut [u8], at: usize, a: PacketAnswer) -> usize {
     match a {
-        PacketAnswer::Whole(p) => probe_line::two(out, at, b"packet", p.packet_type as usize, p.len),
+        PacketAnswer::Whole(p) => probe_line::two(
+            out,
+            at,
+            b"packet",
+            p.packet_type as usize,
+            p.len,
+        ),
         PacketAnswer::Refused(r) => probe_line::refused(out, at, r),
     }
 }

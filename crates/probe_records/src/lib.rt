@@ -1,7 +1,7 @@
 // A caller of `map_records::fill`: it lends a part of a local array of records, and hands the array back by value with the answer.
 // `lend` makes a reference to structs, so it is proved by hand, and thin. Callers of `fill` need no proof by hand.
-use map_answer::Track;
 use map::MapAnswer;
+use map_answer::Track;
 ghost use mathlib.Core.Path.{_≡_};
 ghost use Prim.Native.Nat.{_≤_};
 ghost use lib.ListN.{replicate};

@@ -1,7 +1,7 @@
 // The probe's answers of a track's texts: its name, by one map or two, and the parameters of an auxiliary text.
-use mpeg::MpegAnswer;
 use map_name::NameAnswer;
 use map_name::TwoAnswer;
+use mpeg::MpegAnswer;
 use mpeg_parameter::ParameterValue;
 use mpeg_parameter::Parameters;
 use plate::Refusal;

@@ -1,13 +1,13 @@
 // The bench readings that run: streams of 99 and 100 packets without a map, rates of auxiliary texts, and streams that a multiplexer made.
-use map_answer::Code;
-use map_answer::Material;
-use map_answer::Value;
 use console::figure;
 use console::load;
 use console::refused;
 use console::say;
 use map::MapAnswer;
 use map::TrackAnswer;
+use map_answer::Code;
+use map_answer::Material;
+use map_answer::Value;
 use mpeg::MpegAnswer;
 use mpeg_parameter::ParameterValue;
 use stream::CheckAnswer;
@@ -196,6 +196,9 @@ fn rates() {
     rate_file(b"br_2.txt", b"9007199254.740993", 0);
     rate_file(b"br_3.txt", b"0", 0x0000000000000000);
     rate_file(b"br_4.txt", b"0.000001", 0x3EB0C6F7A0B5ED8D);
+}
+
+fn longer_rates() {
     rate_file(b"br_5.txt", b"50000000", 0x4187D78400000000);
     rate_file(b"br_6.txt", b"1234567890", 0x41D26580B4800000);
     rate_file(b"br_7.txt", b"12345678901", 0);
@@ -203,17 +206,27 @@ fn rates() {
     rate_file(b"br_9.txt", b"0.1234567", 0);
 }
 
-fn main() {
-    check_file(b"without_map_99.gxf");
-    check_file(b"without_map_100.gxf");
-    rates();
+// What a multiplexer made.
+fn streams() {
     stream_file(b"pal_one_frame.gxf");
     stream_file(b"pal_mpeg2.gxf");
     stream_file(b"ntsc_mpeg2.gxf");
     stream_file(b"pal_mpeg1.gxf");
     stream_file(b"ntsc_mpeg1.gxf");
+}
+
+fn more_streams() {
     stream_file(b"pal_timecode.gxf");
     stream_file(b"pal_mjpeg.gxf");
     stream_file(b"pal_120.gxf");
     stream_file(b"pal_longer.gxf");
+}
+
+fn main() {
+    check_file(b"without_map_99.gxf");
+    check_file(b"without_map_100.gxf");
+    rates();
+    longer_rates();
+    streams();
+    more_streams();
 }

@@ -1,10 +1,10 @@
 // The check of a whole stream in one pass, and seek: the first media packet that carries a field of a track.
+use map_tracks::Types;
 use order::Progress;
 use order::Step;
 use piece::Piece;
 use piece::PieceAnswer;
 use plate::Refusal;
-use map_tracks::Types;
 ghost use mathlib.Core.Path.{_≡_};
 ghost use mathlib.Core.Bool.{true, false};
 ghost use Rattle.plate.specs.Plate.{refusal};
@@ -89,7 +89,9 @@ fn one_pass(s: &[u8], track: u64, field: u64) -> Run
 {
     let mut at: usize = 0;
     let mut p = order::start();
-    let mut types = Types { media_types: [0u8; 64] };
+    let mut types = Types {
+        media_types: [0u8; 64],
+    };
     let mut first = Spot::Nothing;
     while at < s.len() {
         match piece::piece_at(s, at, p.count == 0) {

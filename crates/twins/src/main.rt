@@ -1,13 +1,13 @@
 // Maps that were made outside, each followed by its twin, which lacks what the reader doesn't know: whether the two answer alike, places aside.
 // The last pairs are no twins and must not.
+use console::say;
+use map::MapAnswer;
+use map::TrackAnswer;
 use map_answer::Code;
 use map_answer::Material;
 use map_answer::Track;
 use map_answer::Value;
-use console::say;
 use map_items::Part;
-use map::MapAnswer;
-use map::TrackAnswer;
 use packet::PacketAnswer;
 
 fn figure(n: usize) {

@@ -1,11 +1,11 @@
 // The writers at work, and their bench readings: the map M written from words and read back, a field number of 33 bits, a place beyond all buffers, and a locator table.
-use map_answer::Material;
-use map_answer::Value;
 use console::figure;
 use console::say;
 use locator::PositionAnswer;
 use map::MapAnswer;
 use map::TrackAnswer;
+use map_answer::Material;
+use map_answer::Value;
 use packet_writer::WriteAnswer;
 
 fn refused(n: u8, place: usize) {

@@ -1,0 +1,30 @@
+-- The round trips, from the theorems of the writers.
+use Prim.Native.Nat.{ℕ}
+use mathlib.Core.Path.{_≡_, sym, ap}
+use mathlib.Core.List.{List}
+use Rattle.packet_writer.specs.declared.WriteAnswer.{WriteAnswer}
+use Rattle.packet_writer.specs.declared.WriteAnswer.the-variants as write
+use Rattle.map_writer.specs.Readers as map
+use Rattle.map_writer.proofs.RoundTrip as map-trip
+use Rattle.map_writer.proofs.Readers.{write-then-read}
+use Rattle.locator_writer.proofs.RoundTrip as locator-trip
+use Rattle.locator_writer.proofs.Readers.{readers}
+use Rattle.paper_readings.specs.Calls.{WritesMap}
+use Rattle.paper_readings.proofs.Calls.{map-written-is, locator-written-is}
+use Rattle.promises.specs.ReadsBack.{ReadsBack}
+
+-- whatever the contract of `map_writer::write` allows, the readers show what was given
+map-read : (out : List ℕ) (at : ℕ) (text ms ts : List ℕ) (n : ℕ) (o : List ℕ) → WritesMap out at text ms ts (write.Length n) o → map.Readers o at n text ms ts
+map-read out at text ms ts n o g =
+    let e : g .result ≡ write.Length n = ap (λ (p : WriteAnswer × List ℕ). p .0) (g .it) in
+    let f : g .exit .0 .now ≡ o = ap (λ (p : WriteAnswer × List ℕ). p .1) (g .it) in
+    rw (← f, ← g .on .1, ← g .on .2, ← g .on .3, ← g .on .4) (write-then-read (g .lifetimes) (g .arguments) n (g .exit) (rw e at (g .post)))
+
+pub reads-back : ReadsBack
+reads-back =
+    record {
+      map = λ out at text ms ts n o g. let e = map-written-is out at text ms ts _ o g in rw (e .1) (map-trip.round-trip out at text ms ts n (sym (e .0)));
+      map-readers = map-read;
+      locator = λ out at step ns n o g. let e = locator-written-is out at step ns _ o g in rw (e .1) (locator-trip.round-trip out at step ns n (sym (e .0)));
+      locator-readers = λ out at step ns n o g. let e = locator-written-is out at step ns _ o g in rw (e .1) (readers out at step ns n _ (locator-trip.round-trip out at step ns n (sym (e .0))));
+    }

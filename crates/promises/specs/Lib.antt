@@ -1,0 +1,4 @@
+pub mod EveryInput
+pub mod NewerMaps
+pub mod ReadsBack
+pub mod SeekAndBook
