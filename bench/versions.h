@@ -25,7 +25,7 @@ struct reading c_build(u8 *out, u64 room, const u8 *s, u64 n);
 struct reading c_lookup(const u8 *b, u64 n, u64 track, u64 field);
 struct map_reading c_map(const u8 *s, u64 n);
 
-/* The library's, by the crates measure, measure_book and measure_map; seek is gxf_seek of include/lumperki.h. */
+/* The library's, by the crates count_stream, count_book and count_map; seek is gxf_seek of include/lumperki.h. */
 struct reading gxf_check(const u8 *s, u64 n);
 struct reading gxf_seek(const u8 *s, u64 n, u64 track, u64 field);
 struct reading gxf_build(u8 *out, u64 room, const u8 *s, u64 n);

@@ -39,9 +39,9 @@ static uint8_t *whole(const char *name, size_t *n)
     return s;
 }
 
-static const char *name_of(uint64_t kind)
+static const char *name_of(uint64_t packet_type)
 {
-    switch (kind) {
+    switch (packet_type) {
     case GXF_MAP:
         return "map";
     case GXF_MEDIA:
@@ -107,8 +107,8 @@ int main(int argc, char **argv)
             refused = 1;
             break;
         }
-        printf("%zu %s %" PRIu64 "\n", at, name_of(p.kind), p.len);
-        if (p.kind == GXF_FLT && !has_locator) {
+        printf("%zu %s %" PRIu64 "\n", at, name_of(p.packet_type), p.len);
+        if (p.packet_type == GXF_FLT && !has_locator) {
             has_locator = 1;
             locator = at;
         }

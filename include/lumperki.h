@@ -37,7 +37,7 @@ enum {
 struct gxf_packet {
     uint64_t number;
     uint64_t place;
-    uint64_t kind;
+    uint64_t packet_type;
     uint64_t len;
 };
 
@@ -57,7 +57,7 @@ struct gxf_offset {
  *   for (size_t at = 0; at < n;) {
  *       struct gxf_packet p = gxf_header(s, n, at);
  *       if (p.number != 0) break;
- *       printf("%zu %02x %llu\n", at, (unsigned)p.kind, (unsigned long long)p.len);
+ *       printf("%zu %02x %llu\n", at, (unsigned)p.packet_type, (unsigned long long)p.len);
  *       at += p.len;
  *   }
  */

@@ -7,7 +7,7 @@ import os, re, sys
 from dataclasses import dataclass
 
 # These are proved by hand and have no `Reads.Post`: their contract is one definition of the crate's own specs/, and their theorem is over its name.
-BY_HAND = {"walker::make": "Made", "walker::step": "Stepped", "tracks::fill": "Filled"}
+BY_HAND = {"walker::make": "Made", "walker::step": "Stepped", "map_records::fill": "Filled"}
 
 # ---- The functions: .rt ----
 
@@ -193,6 +193,7 @@ class Page:
     may_ask: set  # the functions that may ask something of their callers
     named: set  # the edits, as CRATE/EDIT
     defining: set  # those that it says to change a definition
+    programs: set  # the crates that serve programs alone
 
 
 def page_of(text):
@@ -223,7 +224,8 @@ def page_of(text):
             defining |= edits_in(edits, crate)
     for crate, edits in re.findall(r"^\| `[^`]+` of `(\w+)` \|[^|]*\|([^|]*)\|$", about, re.M):  # the edits that make a theorem false
         named |= edits_in(edits, crate)
-    return Page(rows, may_ask, named | defining, defining)
+    programs = re.search(r"crates of the programs alone are left out: (.*?)\.\s", section("Functions that ask"), re.S)
+    return Page(rows, may_ask, named | defining, defining, set(re.findall(r"`(\w+)`", programs.group(1))) if programs else set())
 
 
 # ---- The edits: must-fail/ ----
@@ -347,7 +349,7 @@ def judge(top):
     for crate in crates:
         folder = f"{top}/crates/{crate}"
         theorems = theorems_of(folder)
-        functions = functions_of(folder)
+        functions = [] if crate in page.programs else functions_of(folder)
         for f in functions:
             seen.add(f"{crate}::{f.name}")
             asking |= {f"{crate}::{f.name}"} if f.requires else set()

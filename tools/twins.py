@@ -2,7 +2,7 @@
 """twins.py: makes the maps that the program `twins` reads, and the lines that it must write.
 Each map has a twin: the same map without what document 01 leaves unknown or reserved. Maps are made from items and tracks; a twin
 is also found a second way, by taking the map's bytes apart, and the two must agree. It is written from document 01 alone.
-Same seed, same files: crates/twins/data/*.gxf, crates/twins/stdout, and some of the pairs as a table for the checker, crates/newer/proofs/Outside.antt.
+Same seed, same files: crates/twins/data/*.gxf, crates/twins/stdout, and some of the pairs as a table for the checker, crates/map_newer/proofs/Outside.antt.
 Run `rt fmt` afterwards."""
 import os, random, struct
 
@@ -173,7 +173,7 @@ use Rattle.track_section.specs.Tracks as tracks
 use Rattle.map.specs.Map as map
 use Rattle.map.specs.Encode as encode
 use Rattle.map.specs.Said as said
-use Rattle.newer.specs.Strike as strike
+use Rattle.map_newer.specs.Strike as strike
 
 -- a map and its twin, each as so many bytes and the number that they are
 pub record Twins : Type 0 where
@@ -249,7 +249,7 @@ def main():
         print(name, len(out))
     with open(os.path.join(HERE, 'stdout'), 'w') as f:
         f.write(said)
-    with open(os.path.join(HERE, '..', 'newer', 'proofs', 'Outside.antt'), 'w') as f:
+    with open(os.path.join(HERE, '..', 'map_newer', 'proofs', 'Outside.antt'), 'w') as f:
         f.write(table(packets, 16))
 
 if __name__ == '__main__':

@@ -367,11 +367,11 @@ static void ask_header(uint64_t input, const uint8_t *s, size_t n, size_t at)
     struct gxf_packet a = gxf_header(s, n, at), b = reference_header(s, n, at);
     uint64_t asked[2], x[4], y[4];
     tally(HEADER, b.number);
-    if (a.number == b.number && a.place == b.place && a.kind == b.kind && a.len == b.len)
+    if (a.number == b.number && a.place == b.place && a.packet_type == b.packet_type && a.len == b.len)
         return;
     asked[0] = at, asked[1] = 0;
-    x[0] = a.number, x[1] = a.place, x[2] = a.kind, x[3] = a.len;
-    y[0] = b.number, y[1] = b.place, y[2] = b.kind, y[3] = b.len;
+    x[0] = a.number, x[1] = a.place, x[2] = a.packet_type, x[3] = a.len;
+    y[0] = b.number, y[1] = b.place, y[2] = b.packet_type, y[3] = b.len;
     differ(input, HEADER, asked, x, y, 4);
 }
 

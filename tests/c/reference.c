@@ -68,7 +68,7 @@ struct gxf_packet reference_header(const uint8_t *s, size_t n, size_t at)
         answer.place = f.place;
         return answer;
     }
-    answer.kind = s[at + 5];
+    answer.packet_type = s[at + 5];
     answer.len = big(s + at + 6, 4);
     return answer;
 }
