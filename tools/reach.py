@@ -75,8 +75,8 @@ def targets(host, used, modules):
 
 
 def public_contracts(text):
-    # what stands between ensures { .. } of a public function, and its requires
-    for m in re.finditer(r'^ *pub (?:extern "C" )?fn \w+.*?^ *\{$', text, re.M | re.S):
+    # what stands between ensures { .. } of a public function, and its requires; and of `named` and `tied`, which hold the public constants
+    for m in re.finditer(r'^ *(?:pub (?:extern "C" )?fn \w+|fn (?:named|tied)\b).*?^ *\{$', text, re.M | re.S):
         for c in re.finditer(r"(?:ensures|requires) \{(.*?⌝) \}", m.group(0), re.S):
             yield c.group(1)
 

@@ -20,7 +20,7 @@ use Rattle.book_builder.specs.BookBuilder.{entriesIn, inRoom, buildAnswer, buil
 use Rattle.book_builder.specs.declared.BuildAnswer.the-variants as build
 use Rattle.book_builder.proofs.Contracts.{Lent}
 use Rattle.book_builder.proofs.Same.{asSeek, lookup-is-seek}
-use Rattle.agreement.specs.Agreement.{likeRefusal, alike}
+use Rattle.agreement.specs.Inside.{likeRefusal, alike}
 
 self-alike : (a : LookupAnswer) → alike a (asSeek a) ≡ true
 unfolding alike likeRefusal

@@ -5,7 +5,8 @@ use plate::Refusal;
 use stream::SeekAnswer;
 ghost use mathlib.Core.Path.{_≡_};
 ghost use Rattle.book_builder.specs.BookBuilder.{buildAnswer, builtIn};
-ghost use Rattle.agreement.specs.Agreement.{likeRefusal, alike, agreementOf};
+ghost use Rattle.agreement.specs.Agreement.{agreementOf};
+ghost use Rattle.agreement.specs.Inside.{likeRefusal, alike};
 
 // Book and stream give one answer, or two; or there is no book.
 pub enum Agreement {

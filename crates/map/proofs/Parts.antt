@@ -24,7 +24,8 @@ use Rattle.map_tracks.proofs.Split as split
 use Rattle.map_tracks.proofs.Anywhere.{track-whole, passed, accepted-over, tracks-anywhere}
 use Rattle.map.specs.Map.{part, afterMaterial, layoutOf, materialIn, tracksIn, bothVerdict, sectionsVerdict, mapVerdict}
 use Rattle.map.specs.Encode.{MapParts, described, encode}
-use Rattle.map.specs.ViewOfParts.{opened, partsOf, Good}
+use Rattle.map.specs.Parts.{opened, partsOf}
+use Rattle.map.specs.Inside.{Good}
 use Rattle.map.specs.declared.Layout.{Layout}
 use Rattle.map.specs.declared.Layout.the-variants.{Both, One, Neither}
 use Rattle.map.proofs.Laws.{part-length}

@@ -22,7 +22,8 @@ use Rattle.map_tracks.specs.Tracks.{Description, Placed, hangs, splitTracks, tr
 use Rattle.map.specs.Map.{part, layoutOf, materialIn, tracksIn, tracksAt, materialSays, listedIn}
 use Rattle.map.specs.Encode.{TrackParts, MapParts, described, encode}
 use Rattle.map.specs.View.{Held, nothing, bytes, heldAt, materialViewIn, trackViewIn, viewIn}
-use Rattle.map.specs.ViewOfParts.{heldOf, materialViewOfItems, trackViewOfParts, listedOf, viewOfParts, opened, partsOf}
+use Rattle.map.specs.Parts.{listedOf, opened, partsOf}
+use Rattle.map.specs.Inside.{heldOf, materialViewOfItems, trackViewOfParts, viewOfParts}
 use Rattle.map.specs.declared.Layout.{Layout}
 use Rattle.map.specs.declared.Layout.the-variants.{Both, One, Neither}
 use Rattle.map.proofs.Laws.{Within, layout-within}

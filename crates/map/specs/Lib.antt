@@ -1,4 +1,5 @@
 pub mod Encode
+pub mod Inside
 pub mod Map
-pub mod ViewOfParts
+pub mod Parts
 pub mod View

@@ -22,7 +22,7 @@ materialPlaces = map (placeIn (materialSlots (numbered 18 0))) (0x40 ∷ 0x41 �
 
 -- a track: type, ID, and 4C to 52
 abbrev placesOf : Given → List ℕ
-placesOf t = t .typeByte ∷ t .id ∷ map (placeIn (t .slots)) (0x4C ∷ 0x4D ∷ 0x4E ∷ 0x4F ∷ 0x50 ∷ 0x51 ∷ 0x52 ∷ [])
+placesOf t = t .mediaType ∷ t .id ∷ map (placeIn (t .slots)) (0x4C ∷ 0x4D ∷ 0x4E ∷ 0x4F ∷ 0x50 ∷ 0x51 ∷ 0x52 ∷ [])
 
 unfoldable pub trackPlaces : List ℕ
 trackPlaces = placesOf (trackAt (numbered 23 0) 0)

@@ -17,7 +17,8 @@ use Rattle.map_tracks.specs.declared.Kth.{Kth}
 use Rattle.map_tracks.specs.declared.Kth.the-variants as kth
 use Rattle.map.specs.Map.{mapVerdict, listedIn}
 use Rattle.map.proofs.Laws.{name-within}
-use Rattle.map_name.specs.Name.{ifAccepted, ifWhole, openedOf, unended, nameFrom, nameIn, orNotThere, inOpened, nameAt, orElse, inTwo, inClosing, inOpening, firstOf, nameOfTwoAt}
+use Rattle.map_name.specs.Name.{ifAccepted, ifWhole, openedOf, unended, nameFrom, nameIn, orNotThere, inOpened, nameAt, orElse, inTwo, nameOfTwoAt}
+use Rattle.map_name.specs.Inside.{inClosing, inOpening, firstOf}
 use Rattle.map_name.specs.declared.Opened.{Opened}
 use Rattle.map_name.specs.declared.Opened.the-variants as opened
 use Rattle.map_name.specs.declared.NameAnswer.the-variants as name

@@ -82,20 +82,6 @@ inTwo a b id (opened.Bytes k) (opened.Bytes n) = orElse (nameIn (take n b) id) (
 unfoldable pub nameOfTwoAt : List ℕ → List ℕ → ℕ → TwoAnswer
 nameOfTwoAt a b id = inTwo a b id (openedOf a) (openedOf b)
 
--- the same in steps, for the code alone: each map's name as an answer, and the first answer that is a name
-unfoldable pub inClosing : Part → TwoAnswer
-inClosing (part.At q n) = two.Closing q n
-inClosing part.Absent = two.Refused (refusal 16 0)
-
-unfoldable pub inOpening : Part → TwoAnswer
-inOpening (part.At q n) = two.Opening q n
-inOpening part.Absent = two.Refused (refusal 16 0)
-
-unfoldable pub firstOf : TwoAnswer → TwoAnswer → TwoAnswer
-firstOf (two.Opening q n) b = two.Opening q n
-firstOf (two.Closing q n) b = two.Closing q n
-firstOf (two.Refused r) b = b
-
 abbrev pub twoBytes : List ℕ → List ℕ → TwoAnswer → List ℕ
 twoBytes a b (two.Opening q n) = take n (drop q a)
 twoBytes a b (two.Closing q n) = take n (drop q b)

@@ -8,7 +8,8 @@ ghost use mathlib.Core.Path.{_≡_};
 ghost use denote.Ref.{ptr};
 ghost use Prim.Native.Nat.{_≤_};
 ghost use lib.ListN.{length};
-ghost use Rattle.map_name.specs.Name.{openedOf, unended, nameIn, nameAt, nameBytes, placeIn, inClosing, inOpening, firstOf, nameOfTwoAt, twoBytes, placeOfTwo};
+ghost use Rattle.map_name.specs.Name.{openedOf, unended, nameIn, nameAt, nameBytes, placeIn, nameOfTwoAt, twoBytes, placeOfTwo};
+ghost use Rattle.map_name.specs.Inside.{inClosing, inOpening, firstOf};
 
 // The length of an accepted map packet at the start of lent bytes, or its refusal.
 pub enum Opened {

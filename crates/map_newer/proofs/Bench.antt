@@ -26,7 +26,7 @@ use Rattle.map.specs.Map as map
 use Rattle.map.specs.Encode as encode
 use Rattle.map.specs.View as shown
 use Rattle.map.specs.View.{nothing, bytes, MapView, viewIn}
-use Rattle.map.specs.ViewOfParts as said
+use Rattle.map.specs.Parts as said
 use Rattle.map.specs.declared.MapSays.{MapSays}
 use Rattle.map.specs.Map.{mapAt}
 use Rattle.map.proofs.Samples.{headed, upToRate, M, newer, reserved, saying}

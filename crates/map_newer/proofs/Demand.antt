@@ -5,7 +5,7 @@ use mathlib.Core.List.{List, [], _∷_}
 use Rattle.number.proofs.Bytes.{AllBytes, one-by-one, bytes-join}
 use Rattle.map_items.specs.Items.{Item, itemsBytes}
 use Rattle.map.specs.Encode.{MapParts, encode}
-use Rattle.map.specs.ViewOfParts.{partsOf}
+use Rattle.map.specs.Parts.{partsOf}
 use Rattle.map.proofs.Encoded.{Fit, parts-of-encoded}
 use Rattle.map.proofs.ViewOfParts.{view-of-parts, view-encoded}
 use Rattle.map_newer.specs.Known.{Clean, Kept}

@@ -21,7 +21,7 @@ use Rattle.map_items.proofs.Anywhere.{never, not-accepted, item-anywhere, judge
 use Rattle.map_answer.specs.Answer.{valueOf, codeOf}
 use Rattle.map_answer.specs.declared.Code.{Code}
 use Rattle.map_answer.specs.declared.Code.the-variants as code
-use Rattle.map.specs.ViewOfParts.{heldOf}
+use Rattle.map.specs.Inside.{heldOf}
 use Rattle.map_newer.specs.Strike.{kept, isReserved, trackStays, setAt}
 
 -- keeping twice is keeping once; what is set in and does not stay is not kept

@@ -19,7 +19,7 @@ use Rattle.map_answer.specs.declared.Value.the-variants as value
 use Rattle.map_answer.specs.declared.Code.the-variants as code
 use Rattle.map_tracks.specs.Tracks.{isListed}
 use Rattle.map.specs.Encode.{TrackParts, MapParts, described}
-use Rattle.map.specs.ViewOfParts.{listedOf}
+use Rattle.map.specs.Parts.{listedOf}
 use Rattle.map_newer.specs.Known.{knownMaterial, meaningful, knownItem, knownTrack, Each, EachItem, Clean, Leaves, Same, KeptTrack, Kept}
 use Rattle.map_newer.specs.Strike.{kept, materialStays, isReserved, trackStays, struckTrack, struck}
 

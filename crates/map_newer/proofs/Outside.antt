@@ -10,7 +10,7 @@ use Rattle.map_answer.specs.Answer as answer
 use Rattle.map_tracks.specs.Tracks as tracks
 use Rattle.map.specs.Map as map
 use Rattle.map.specs.Encode as encode
-use Rattle.map.specs.ViewOfParts as said
+use Rattle.map.specs.Parts as said
 use Rattle.map_newer.specs.Strike as strike
 
 -- a map and its twin, each as so many bytes and the number that they are

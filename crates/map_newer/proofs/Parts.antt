@@ -24,7 +24,8 @@ use Rattle.map_tracks.specs.Tracks as tracks
 use Rattle.map_tracks.proofs.Split as split
 use Rattle.map.specs.Map.{part, layoutOf, materialIn, tracksIn, mapVerdict, onVerdict, answerOf, mapFrom, mapAt, materialSays, listedIn}
 use Rattle.map.specs.Encode.{MapParts, described, padding, sectionBytes, packetLength, front, packetOf, encode}
-use Rattle.map.specs.ViewOfParts.{heldOf, materialViewOfItems, listedOf, viewOfParts, partsOf, Good}
+use Rattle.map.specs.Parts.{listedOf, partsOf}
+use Rattle.map.specs.Inside.{heldOf, materialViewOfItems, viewOfParts, Good}
 use Rattle.map.specs.declared.Layout.{Layout}
 use Rattle.map.specs.declared.Layout.the-variants.{Both, One, Neither}
 use Rattle.map.specs.declared.MapAnswer.{MapAnswer}

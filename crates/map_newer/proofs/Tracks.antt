@@ -19,7 +19,8 @@ use Rattle.map_tracks.specs.Tracks.{over, trackOver, trackVerdict, judgeTracks,
 use Rattle.map_tracks.specs.Tracks as tracks
 use Rattle.map_tracks.proofs.Anywhere.{passed, pass, tracks-anywhere}
 use Rattle.map.specs.Encode.{TrackParts, described}
-use Rattle.map.specs.ViewOfParts.{trackViewOfParts, listedOf}
+use Rattle.map.specs.Parts.{listedOf}
+use Rattle.map.specs.Inside.{trackViewOfParts}
 use Rattle.map.proofs.ViewOfParts.{same-value, same-null}
 use Rattle.map_newer.specs.Strike.{kept, trackStays, struckTrack, setAt, setInTrack}
 use Rattle.map_newer.proofs.Items.{Fewer, fewer-both, fewer-one, kept-again, kept-set, kept-good, set-good, kept-size, set-size, kept-bytes, set-bytes, kept-held, kept-code}

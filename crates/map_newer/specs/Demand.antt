@@ -13,7 +13,7 @@ use Rattle.map.specs.Map.{layoutOf, materialIn, tracksIn, mapAt}
 use Rattle.map.specs.declared.MapSays.{MapSays}
 use Rattle.map.specs.declared.MapAnswer.the-variants.{Says}
 use Rattle.map.specs.View.{viewIn}
-use Rattle.map.specs.ViewOfParts.{partsOf}
+use Rattle.map.specs.Parts.{partsOf}
 use Rattle.map_newer.specs.Known.{Clean, Kept}
 use Rattle.map_newer.specs.Strike.{struck, strike, Boundary, inMaterial, inTrack, setIn, setInParts}
 

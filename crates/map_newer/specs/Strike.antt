@@ -11,7 +11,7 @@ use Rattle.map_answer.specs.Answer.{valueOf, codeOf}
 use Rattle.map_answer.specs.declared.Code.{Code}
 use Rattle.map_answer.specs.declared.Code.the-variants as code
 use Rattle.map.specs.Encode.{TrackParts, MapParts, encode}
-use Rattle.map.specs.ViewOfParts.{listedOf, partsOf}
+use Rattle.map.specs.Parts.{listedOf, partsOf}
 
 -- those that pass a test, in order
 unfoldable pub kept : {A : Type 0} → (A → Bool) → List A → List A

@@ -22,7 +22,7 @@ use Rattle.map_items.proofs.Anywhere.{verdict-bytes}
 use Rattle.map_tracks.specs.Tracks.{Description, over, trackVerdict, endVerdict, judgeTracks}
 use Rattle.map_tracks.proofs.Anywhere.{Passed, pass}
 use Rattle.map.specs.Encode.{TrackParts, described}
-use Rattle.map.specs.ViewOfParts.{Good}
+use Rattle.map.specs.Inside.{Good}
 use Rattle.map_given.specs.declared.Slot.{Slot}
 use Rattle.map_given.specs.Given.{slotAt, slots, materialSlots, trackAt, tracksFrom}
 use Rattle.map_given.specs.Faults.{isText, isEight, slotFault, slotsFault, given, ownFault, tracksFault, idFault, idsFault}

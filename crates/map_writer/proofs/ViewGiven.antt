@@ -21,7 +21,8 @@ use Rattle.map_answer.specs.declared.Code.the-variants as code
 use Rattle.map_tracks.specs.Tracks.{isListed}
 use Rattle.map.specs.Encode.{described}
 use Rattle.map.specs.View.{Held, nothing, bytes}
-use Rattle.map.specs.ViewOfParts.{heldOf, materialViewOfItems, trackViewOfParts, listedOf, viewOfParts}
+use Rattle.map.specs.Parts.{listedOf}
+use Rattle.map.specs.Inside.{heldOf, materialViewOfItems, trackViewOfParts, viewOfParts}
 use Rattle.map.proofs.ViewOfParts.{same-value, same-null}
 use Rattle.map_given.specs.declared.Slot.{Slot}
 use Rattle.map_given.specs.Given.{slotAt, slots, materialSlots, Given, trackAt, tracksFrom}

@@ -40,7 +40,9 @@ use Rattle.map.proofs.Samples.{M}
 use Rattle.paper_readings.proofs.Streams.{S, mute, unlent, B, room, carrying, computed, bytes-needed}
 use Rattle.paper_readings.proofs.Pairs.{located, N, bare, other, pairs}
 use Rattle.mpeg.proofs.Worked.{text}
-use Rattle.paper_readings.specs.Calls.{Checks, Seeks, Looks, Builds, LeavesBuilt, Tables, Positions, Preambles, Places, PlacesOfTwo, Names, NamesOfTwo, Parameters}
+use Rattle.book_builder.proofs.build.Kinds as build-kinds
+use Rattle.book_builder.proofs.build.Reads as build-reads
+use Rattle.paper_readings.specs.Calls.{Allows, Checks, Seeks, Looks, Tables, Positions, Preambles, Places, PlacesOfTwo, Names, NamesOfTwo, Parameters}
 
 -- bytes as a slice lends them
 abbrev lent : List ℕ → RefT (List ℕ)
@@ -119,6 +121,9 @@ pub no-finding-lookup : (o : ℕ) → Looks B 1 2 (lookup.At o) → ⊥
 no-finding-lookup o g = let e = lookup-is B 1 2 (lookup.At o) g ∙ computed .no-record in let z : _≡_ {A = ℕ} 0 1 = cc in omega arith
 
 -- `book_builder::build` from a stream into a buffer: its answer; none refuses all, and none gives one number of records on all
+abbrev pub Builds : List ℕ → List ℕ → BuildAnswer → Type 0
+Builds l s = Allows 2 build-kinds.ps build-kinds.r build-reads.Post BuildAnswer (λ κs a. (a .0 .now ≡ l) × (a .1 .0 .now ≡ s)) (λ κs x t. x)
+
 pub build-is : (l s : List ℕ) (x : BuildAnswer) → Builds l s x → x ≡ builder.buildAnswer l s
 build-is l s x g = sym (g .it) ∙ g .post .0 ∙ rw (g .on .0, g .on .1)
 
@@ -133,6 +138,9 @@ pub no-constant-build : (x : BuildAnswer) → Builds (room 33) S x → Builds (r
 no-constant-build x g h = let e = both (build-is (room 33) S x g ∙ computed .two) (build-is (room 33) mute x h ∙ computed .none) in let z : _≡_ {A = ℕ} 2 0 = cc in omega arith
 
 -- and what the buffer holds then: none writes nothing, and none writes one book for all streams
+abbrev pub LeavesBuilt : List ℕ → List ℕ → List ℕ → Type 0
+LeavesBuilt l s = Allows 2 build-kinds.ps build-kinds.r build-reads.Post (List ℕ) (λ κs a. (a .0 .now ≡ l) × (a .1 .0 .now ≡ s)) (λ κs x t. t .0 .now)
+
 pub left-is : (l s o : List ℕ) → LeavesBuilt l s o → o ≡ builder.builtIn l s
 left-is l s o g = sym (g .it) ∙ g .post .1 ∙ rw (g .on .0, g .on .1)
 

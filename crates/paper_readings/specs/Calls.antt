@@ -100,14 +100,6 @@ Seeks s track field = Allows 1 seek-kinds.ps seek-kinds.r seek-reads.Post SeekAn
 abbrev pub Looks : List ℕ → ℕ → ℕ → LookupAnswer → Type 0
 Looks s track field = Allows 1 lookup-kinds.ps lookup-kinds.r lookup-reads.Post LookupAnswer (λ κs a. (a .0 .now ≡ s) × (a .1 .0 ≡ track) × (a .1 .1 .0 ≡ field)) (λ κs x t. x)
 
--- `book_builder::build` into a buffer, from a stream: its answer
-abbrev pub Builds : List ℕ → List ℕ → BuildAnswer → Type 0
-Builds l s = Allows 2 build-kinds.ps build-kinds.r build-reads.Post BuildAnswer (λ κs a. (a .0 .now ≡ l) × (a .1 .0 .now ≡ s)) (λ κs x t. x)
-
--- and what it leaves in the buffer
-abbrev pub LeavesBuilt : List ℕ → List ℕ → List ℕ → Type 0
-LeavesBuilt l s = Allows 2 build-kinds.ps build-kinds.r build-reads.Post (List ℕ) (λ κs a. (a .0 .now ≡ l) × (a .1 .0 .now ≡ s)) (λ κs x t. t .0 .now)
-
 -- `locator::read` at a position
 abbrev pub Tables : List ℕ → ℕ → LocatorAnswer → Type 0
 Tables s at = Allows 1 locator-kinds.ps locator-kinds.r locator-reads.Post LocatorAnswer (λ κs a. (a .0 .now ≡ s) × (a .1 .0 ≡ at)) (λ κs x t. x)

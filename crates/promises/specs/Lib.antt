@@ -2,3 +2,4 @@ pub mod EveryInput
 pub mod NewerMaps
 pub mod ReadsBack
 pub mod SeekAndBook
+pub mod WhatIsRead

@@ -1,7 +1,7 @@
 use borrow.Author.Needs.{needs}
 use Rattle.agreement.proofs.is_alike.Statement.{statement}
 use Rattle.agreement.proofs.is_alike.Tie as tie
-use Rattle.agreement.specs.Agreement.{alike}
+use Rattle.agreement.specs.Inside.{alike}
 
 enum-known-a : tie.Need-enum-known-a
 enum-known-a c = search needs

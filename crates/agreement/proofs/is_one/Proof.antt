@@ -1,7 +1,7 @@
 use Rattle.agreement.proofs.is_one.Statement.{statement}
 use Rattle.agreement.proofs.is_one.Tie as tie
 use borrow.Author.Tests.{eq-eqb, ne-eqb}
-use Rattle.agreement.specs.Agreement.{likeRefusal}
+use Rattle.agreement.specs.Inside.{likeRefusal}
 
 returns : tie.Need-returns
 unfolding likeRefusal

@@ -1,7 +1,7 @@
 use borrow.Author.Needs.{needs}
 use Rattle.map_name.proofs.first_of.Statement.{statement}
 use Rattle.map_name.proofs.first_of.Tie as tie
-use Rattle.map_name.specs.Name.{firstOf}
+use Rattle.map_name.specs.Inside.{firstOf}
 
 enum-told : tie.Need-enum-told
 enum-told c = search needs

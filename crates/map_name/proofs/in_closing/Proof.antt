@@ -1,7 +1,7 @@
 use borrow.Author.Needs.{needs}
 use Rattle.map_name.proofs.in_closing.Statement.{statement}
 use Rattle.map_name.proofs.in_closing.Tie as tie
-use Rattle.map_name.specs.Name.{inClosing}
+use Rattle.map_name.specs.Inside.{inClosing}
 
 enum-known-name : tie.Need-enum-known-name
 enum-known-name c = search needs

@@ -1,7 +1,7 @@
 use borrow.Author.Needs.{needs}
 use Rattle.map_name.proofs.in_opening.Statement.{statement}
 use Rattle.map_name.proofs.in_opening.Tie as tie
-use Rattle.map_name.specs.Name.{inOpening}
+use Rattle.map_name.specs.Inside.{inOpening}
 
 enum-known-name : tie.Need-enum-known-name
 enum-known-name c = search needs

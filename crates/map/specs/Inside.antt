@@ -1,20 +1,20 @@
--- What a map's items and tracks say, with no place in it, and the items and tracks of a packet.
-use Prim.Native.Nat.{ℕ, _-_}
+-- What serves the proofs alone: what items and tracks say, with no place in it, and what the reader asks of them. The theorems about newer and written maps go by it.
+use Prim.Native.Nat.{_-_}
 use mathlib.Core.Path.{_≡_}
-use mathlib.Core.List.{List, [], _∷_, map}
-use lib.ListN.{length, getD, take, drop}
+use mathlib.Core.List.{List, [], map}
+use lib.ListN.{length}
 use Rattle.plate.specs.Choice.{pick}
-use Rattle.map_items.specs.Items.{Item, sectionOf}
+use Rattle.map_items.specs.Items.{Item}
 use Rattle.map_items.specs.Judge.{judgeItems}
 use Rattle.map_items.specs.declared.Section.the-variants as section
 use Rattle.map_items.specs.declared.Verdict.the-variants.{Accepted}
 use Rattle.map_items.specs.Find.{Found, missing, found, find, partOf}
 use Rattle.map_answer.specs.Answer.{valueOf, codeOf, isNull}
 use Rattle.map_answer.specs.declared.Value.the-variants as value
-use Rattle.map_tracks.specs.Tracks.{Description, over, tracksOf, judgeTracks, isListed}
-use Rattle.map.specs.Map.{layoutOf, materialIn, tracksIn}
+use Rattle.map_tracks.specs.Tracks.{over, judgeTracks}
 use Rattle.map.specs.Encode.{TrackParts, MapParts, described}
 use Rattle.map.specs.View.{Held, nothing, bytes, MaterialView, TrackView, MapView}
+use Rattle.map.specs.Parts.{listedOf}
 
 -- what was found: its stored length and its bytes
 unfoldable pub heldOf : Found → Held
@@ -48,11 +48,6 @@ trackViewOfParts t =
       mpeg = pick (isNull (partOf (find 0x4C 0 (t .items)))) nothing (heldOf (find 0x4F 0 (t .items)));
     }
 
--- the tracks of known media type, in map order
-unfoldable pub listedOf : List TrackParts → List TrackParts
-listedOf [] = []
-listedOf (t ∷ ts) = pick (isListed (described t)) (t ∷ listedOf ts) (listedOf ts)
-
 -- the answer: the count of listed tracks, the material, and the records in order
 unfoldable pub viewOfParts : MapParts → MapView
 viewOfParts p =
@@ -60,20 +55,6 @@ viewOfParts p =
       count = length (listedOf (p .tracks));
       material = materialViewOfItems (p .material);
       tracks = map trackViewOfParts (listedOf (p .tracks));
-    }
-
--- a track's items, by lengths alone
-unfoldable pub opened : Description → TrackParts
-opened d = record { typeByte = d .typeByte; id = d .id; items = sectionOf (d .items) .list }
-
--- the parts of a map packet, by lengths alone: the reserved bytes stand at 10 and at 17
-unfoldable pub partsOf : List ℕ → MapParts
-partsOf p =
-    record {
-      spare = take 4 (drop 10 p);
-      second = getD p 17 0;
-      material = sectionOf (materialIn p (layoutOf p)) .list;
-      tracks = map opened (tracksOf (tracksIn p (layoutOf p)) .list);
     }
 
 -- what the reader asks of items and tracks, by its own judges; whether they accept does not depend on the place, so it is 0
