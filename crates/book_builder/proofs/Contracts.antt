@@ -24,7 +24,7 @@ use Rattle.book_builder.proofs.build.Reads as build-reads
 use Rattle.book_builder.proofs.Same.{asSeek, lookup-is-seek}
 
 -- what whoever lends a slice of bytes knows of it: by owning it, that it has room (the `Good` of its kind); by the checker's rule for what is read (`shared-slice-known`), that it holds bytes.
--- A denotation alone is any list, and does not tell; of other lists it would not hold (`bytes-needed` in bench)
+-- A denotation alone is any list, and does not tell; of other lists it would not hold (`bytes-needed` in paper_readings)
 pub record Lent (x : RefT (List ℕ)) : Type 0 where
   pub room : Room (rtF (fInt w8)) (length (x .now))
   pub known : Fit (fInt w8) 0 (x .now)

@@ -32,7 +32,8 @@ use Rattle.book.specs.Book.{recordBytes, bookBytes}
 use Rattle.book.specs.declared.Entry.{Entry}
 use Rattle.book.proofs.Coding.{length-bytes}
 use Rattle.book_builder.specs.BookBuilder.{recorded, entryOf, entriesHere, entriesOf, entriesIn, buildAnswer, builtIn}
-use Rattle.book_builder.specs.Inside.{Accepted, Seeable, seenAt}
+use Rattle.book_builder.specs.Inside.{Accepted}
+use Rattle.piece.specs.Seen.{Seeable, seenAt}
 use Rattle.book_builder.proofs.Seen.{seen}
 use Rattle.book_builder.specs.declared.BuildAnswer.the-variants as build
 

@@ -31,7 +31,7 @@ use Rattle.piece.specs.Piece.{plainPiece, ofMap, ofLocator, ofMedia, contentOf,
 use Rattle.piece.specs.declared.Piece.{Piece}
 use Rattle.piece.specs.declared.PieceAnswer.the-variants.{Whole, Refused}
 use Rattle.piece.proofs.Laws.{cut}
-use Rattle.book_builder.specs.Inside.{Seeable, seenAt}
+use Rattle.piece.specs.Seen.{Seeable, seenAt}
 
 media-seen : (p : List ℕ) (m : Media) → preambleOf p 0 ≡ media.Preamble m → (fieldsOf p ≡ m) × (32 ≤ length p)
 unfolding preambleOf

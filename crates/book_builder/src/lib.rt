@@ -9,7 +9,7 @@ ghost use lib.ListN.{length};
 ghost use lib.Seq.{sets};
 ghost use Rattle.book.specs.Book.{recordBytes, bookBytes};
 ghost use Rattle.book_builder.specs.BookBuilder.{recorded, entriesHere, entriesIn, buildAnswer, builtIn};
-ghost use Rattle.book_builder.specs.Inside.{Seeable, seenAt, Accepted};
+ghost use Rattle.book_builder.specs.Inside.{Accepted};
 
 // A book of so many records was written.
 pub enum BuildAnswer {
@@ -38,32 +38,6 @@ fn records_of(x: Piece, at: usize) -> usize
     0
 }
 
-// A packet of a stream that the check accepts, by its bytes alone: nothing is tested twice.
-fn seen_at(s: &[u8], at: usize) -> Piece
-    requires { ⌜ Seeable (now s) at ⌝ }
-    ensures { λ r. ⌜ r ≡ seenAt (now (s .entry)) at ⌝ }
-{
-    let packet_type = s[at + 5];
-    let len = number::be4(s, at + 6);
-    if packet_type == packet::MEDIA {
-        let field = number::be4(s, at + 18);
-        return Piece {
-            packet_type: packet::MEDIA,
-            len,
-            media_type: s[at + 16],
-            track: s[at + 17],
-            field: field as u32,
-        };
-    }
-    Piece {
-        packet_type,
-        len,
-        media_type: 0,
-        track: 0,
-        field: 0,
-    }
-}
-
 // The number of records of a stream that the check accepts.
 fn count(s: &[u8]) -> usize
     requires { ⌜ Accepted (now s) ⌝ }
@@ -72,7 +46,7 @@ fn count(s: &[u8]) -> usize
     let mut at: usize = 0;
     let mut n: usize = 0;
     while at < s.len() {
-        let x = seen_at(s, at);
+        let x = piece::seen_at(s, at);
         let e = at + x.len;
         n += records_of(x, at);
         at = e;
@@ -122,7 +96,7 @@ fn write(out: &mut [u8], s: &[u8])
     let mut at: usize = 0;
     let mut to: usize = 0;
     while at < s.len() {
-        let x = seen_at(s, at);
+        let x = piece::seen_at(s, at);
         let e = at + x.len;
         to = put_records(out, to, x, at);
         at = e;

@@ -1,4 +1,4 @@
-// The function for C by which bench/ counts the building of a seek book; apart from `measure`, as a library that has both compiles the check otherwise.
+// The function for C by which bench/ counts the building of a seek book; apart from `count_stream`, as a library that has both compiles the check otherwise.
 use book_builder::BuildAnswer;
 use for_c::GxfValue;
 ghost use mathlib.Core.Path.{_≡_};

@@ -1,4 +1,4 @@
-// The function for C by which bench/ counts the map reader, with all that it answers; apart from `measure`, as a library that has both compiles the check otherwise.
+// The function for C by which bench/ counts the map reader, with all that it answers; apart from `count_stream`, as a library that has both compiles the check otherwise.
 use map::MapAnswer;
 use map::MapSays;
 use map_answer::Value;

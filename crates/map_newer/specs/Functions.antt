@@ -1,4 +1,4 @@
--- Demand 3 through the functions of `map`: `read`, `track`, `id_of` and `types_of`, over their contracts as the checker reads them (`Reads.Post`), and through `tracks::fill`. Proved in proofs/Functions.antt.
+-- Demand 3 through the functions of `map`: `read`, `track`, `id_of` and `types_of`, over their contracts as the checker reads them (`Reads.Post`), and through `map_records::fill`. Proved in proofs/Functions.antt.
 use Prim.Native.Nat.{ℕ, zero, suc, _<_, _≤_}
 use mathlib.Core.Path.{_≡_}
 use mathlib.Core.List.{List, [], _∷_, _++_, map as each}
@@ -72,7 +72,7 @@ pub record TypesGives (m : List ℕ) (t : Types) : Type 0 where
   pub bytes : arguments .0 .now ≡ m
   pub post : types-reads.Post lifetimes arguments t exit
 
--- a call of `tracks::fill` on the lent records ys, where the packet m stands, gave r and left zs; its contract is the definition `Filled`
+-- a call of `map_records::fill` on the lent records ys, where the packet m stands, gave r and left zs; its contract is the definition `Filled`
 pub record FillGives (m : List ℕ) (ys : List Track) (r : MapAnswer) (zs : List Track) : Type 0 where
   pub before : List ℕ
   pub after : List ℕ

@@ -1,4 +1,4 @@
--- Demand 3 through the functions of `name`: `name_place`, `name` and, of two maps, `name_place_of_two`, over their contracts as the checker reads them. Proved in proofs/Names.antt.
+-- Demand 3 through the functions of `map_name`: `name_place`, `name` and, of two maps, `name_place_of_two`, over their contracts as the checker reads them. Proved in proofs/Names.antt.
 use Prim.Native.Nat.{ℕ, _-_}
 use mathlib.Core.Path.{_≡_}
 use mathlib.Core.List.{List, [], _++_}

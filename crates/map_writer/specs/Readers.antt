@@ -1,4 +1,4 @@
--- Reading what was written, through the readers' contracts as the checker reads them: whatever `map::read`, `map::track` (`Reads.Post`) and `tracks::fill` (`Filled`) give. Proved in proofs/Readers.antt.
+-- Reading what was written, through the readers' contracts as the checker reads them: whatever `map::read`, `map::track` (`Reads.Post`) and `map_records::fill` (`Filled`) give. Proved in proofs/Readers.antt.
 use Prim.Native.Nat.{ℕ, zero, suc, _/_, _≤_, _<_}
 use mathlib.Core.Path.{_≡_}
 use mathlib.Core.List.{List, [], _∷_, map}

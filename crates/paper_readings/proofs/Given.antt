@@ -1,5 +1,5 @@
 -- What contracts shut out, as the checker reads them (`Reads.Post`): a function with one of them neither refuses all nor gives one answer on all, and a builder does not leave every buffer as it was.
--- Each `-is` says what any outcome is that a contract allows on given arguments, and each `-gives` that there is one; `computed` and `pairs` have the answers. The like of `map::read` and `map::track` is in `newer`.
+-- Each `-is` says what any outcome is that a contract allows on given arguments, and each `-gives` that there is one; `computed` and `pairs` have the answers. The like of `map::read` and `map::track` is in `map_newer`.
 use Prim.Native.Nat.{ℕ}
 use mathlib.Core.Path.{_≡_, refl, sym, _∙_, ap}
 use mathlib.Core.List.{List, [], _∷_}
@@ -201,7 +201,7 @@ no-refusing-preamble r g = let e = preamble-is (carrying 0) 0 (media-answer.Refu
 pub no-constant-preamble : (x : MediaAnswer) → Preambles (carrying 0) 0 x → Preambles (carrying 1) 0 x → ⊥
 no-constant-preamble x g h = let e = ap fieldOf (both (preamble-is (carrying 0) 0 x g ∙ pairs .field-0) (preamble-is (carrying 1) 0 x h ∙ pairs .field-1)) in omega arith
 
--- `name::name_place`: where a track's name stands
+-- `map_name::name_place`: where a track's name stands
 pub place-is : (s : List ℕ) (id : ℕ) (x : NameAnswer) → Places s id x → x ≡ name.nameAt s id
 place-is s id x g = sym (g .it) ∙ g .post ∙ rw (g .on .0, g .on .1)
 
@@ -215,7 +215,7 @@ no-refusing-place r g = let e = place-is M 1 (name-answer.Refused r) g ∙ pairs
 pub no-constant-place : (x : NameAnswer) → Places M 1 x → Places N 1 x → ⊥
 no-constant-place x g h = let e = both (place-is M 1 x g ∙ pairs .name-M) (place-is N 1 x h ∙ pairs .name-N) in let z : _≡_ {A = ℕ} 34 28 = cc in omega arith
 
--- `name::name_place_of_two`: where it stands in one of two maps
+-- `map_name::name_place_of_two`: where it stands in one of two maps
 pub place-of-two-is : (opening closing : List ℕ) (id : ℕ) (x : TwoAnswer) → PlacesOfTwo opening closing id x → x ≡ name.nameOfTwoAt opening closing id
 place-of-two-is opening closing id x g = sym (g .it) ∙ g .post ∙ rw (g .on .0, g .on .1, g .on .2)
 
@@ -229,7 +229,7 @@ no-refusing-place-of-two r g = let e = place-of-two-is M N 1 (two-answer.Refused
 pub no-constant-place-of-two : (x : TwoAnswer) → PlacesOfTwo M N 1 x → PlacesOfTwo M bare 1 x → ⊥
 no-constant-place-of-two x g h = let e = both (place-of-two-is M N 1 x g ∙ pairs .closing) (place-of-two-is M bare 1 x h ∙ pairs .opening) in let z : _≡_ {A = ℕ} 0 1 = cc in omega arith
 
--- `name::name`: its bytes; none hands out nothing each time, and none one name
+-- `map_name::name`: its bytes; none hands out nothing each time, and none one name
 pub name-is : (s : List ℕ) (id : ℕ) (x : List ℕ) → Names s id x → x ≡ name.nameBytes s (name.nameAt s id)
 name-is s id x g = sym (g .it) ∙ g .post .0 ∙ rw (g .on .0, g .on .1)
 
@@ -245,7 +245,7 @@ no-constant-name x g h =
     let e = ap firstByte (both (name-is M 1 x g ∙ ap (name.nameBytes M) (pairs .name-M)) (name-is N 1 x h ∙ ap (name.nameBytes N) (pairs .name-N))) in
     omega arith
 
--- `name::name_of_two`: the same of two maps
+-- `map_name::name_of_two`: the same of two maps
 pub name-of-two-is : (opening closing : List ℕ) (id : ℕ) (x : List ℕ) → NamesOfTwo opening closing id x → x ≡ name.twoBytes opening closing (name.nameOfTwoAt opening closing id)
 name-of-two-is opening closing id x g = sym (g .it) ∙ g .post .0 ∙ rw (g .on .0, g .on .1, g .on .2)
 

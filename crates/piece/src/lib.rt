@@ -11,6 +11,7 @@ ghost use mathlib.Core.Bool.{true};
 ghost use Rattle.plate.specs.Choice.{pick};
 ghost use Rattle.plate.specs.Plate.{refusal};
 ghost use Rattle.piece.specs.Piece.{moved, opens, contentOf, pieceAt};
+ghost use Rattle.piece.specs.Seen.{Seeable, seenAt};
 
 // A packet's type and length, and of a media packet its media type, track ID and field number; of any other, zeros.
 pub struct Piece {
@@ -138,5 +139,31 @@ pub fn piece_at(s: &[u8], at: usize, first: bool) -> PieceAnswer
             }
             content(&s[at..e], at, packet_type)
         }
+    }
+}
+
+// The piece at an offset where `piece_at` gave one, by its bytes alone: for who has checked the stream, and tests nothing twice.
+pub fn seen_at(s: &[u8], at: usize) -> Piece
+    requires { ⌜ Seeable (now s) at ⌝ }
+    ensures { λ r. ⌜ r ≡ seenAt (now (s .entry)) at ⌝ }
+{
+    let packet_type = s[at + 5];
+    let len = number::be4(s, at + 6);
+    if packet_type == packet::MEDIA {
+        let field = number::be4(s, at + 18);
+        return Piece {
+            packet_type: packet::MEDIA,
+            len,
+            media_type: s[at + 16],
+            track: s[at + 17],
+            field: field as u32,
+        };
+    }
+    Piece {
+        packet_type,
+        len,
+        media_type: 0,
+        track: 0,
+        field: 0,
     }
 }

@@ -1,4 +1,4 @@
--- What the contract says of the array's two parts: the first n records are as a call of `tracks::fill` on n records leaves them, and those that were not lent stay.
+-- What the contract says of the array's two parts: the first n records are as a call of `map_records::fill` on n records leaves them, and those that were not lent stay.
 use Prim.Native.Nat.{ℕ, _≤_}
 use mathlib.Core.Path.{_≡_, refl, sym, ap, subst, _∙_}
 use mathlib.Core.List.{List, _++_}

@@ -1,4 +1,4 @@
--- A call of `tracks::fill` on the first n of some records (01, Map, "Reading fills lent track records").
+-- A call of `map_records::fill` on the first n of some records (01, Map, "Reading fills lent track records").
 use Prim.Native.Nat.{ℕ}
 use mathlib.Core.List.{List, _++_}
 use lib.ListN.{take, drop}

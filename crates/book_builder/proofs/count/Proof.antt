@@ -3,7 +3,7 @@ use Rattle.book_builder.proofs.count.Tie as tie
 use Rattle.book_builder.proofs.count.Reads as reads
 use Rattle.book_builder.proofs.count.Lts as lts
 use Rattle.book_builder.proofs.records_of.Reads as records-of-reads
-use Rattle.book_builder.proofs.seen_at.Reads as seen-at-reads
+use Rattle.piece.proofs.seen_at.Reads as seen-at-reads
 use borrow.Author.Needs.{needs}
 use native.Mathlib.Omega.{arith}
 use native.Mathlib.Omega.{arith}

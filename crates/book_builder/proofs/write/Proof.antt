@@ -3,7 +3,7 @@ use Rattle.book_builder.proofs.write.Tie as tie
 use Rattle.book_builder.proofs.write.Reads as reads
 use Rattle.book_builder.proofs.write.Lts as lts
 use Rattle.book_builder.proofs.put_records.Reads as put-records-reads
-use Rattle.book_builder.proofs.seen_at.Reads as seen-at-reads
+use Rattle.piece.proofs.seen_at.Reads as seen-at-reads
 use borrow.Author.Needs.{needs}
 use native.Mathlib.Omega.{arith}
 use native.Mathlib.Omega.{arith}

@@ -1,4 +1,4 @@
--- `tracks::fill` meets its contract: a walk of its MIR, by hand, with two calls before the loop and one in it. The borrow of the records is opened once, before the loop, and closed once, after it.
+-- `map_records::fill` meets its contract: a walk of its MIR, by hand, with two calls before the loop and one in it. The borrow of the records is opened once, before the loop, and closed once, after it.
 -- Assumes nothing.
 use mathlib.Core.Path.{_≡_, refl, sym, ap, subst, _∙_}
 use mathlib.Core.Bool.{Bool, true, false}
@@ -61,17 +61,17 @@ use Rattle.map_records.specs.Inside.{recordsToWrite, blank}
 use Rattle.map_records.proofs.Laws.{upTo, length-upTo, upTo-more, writes}
 use Rattle.map_records.proofs.answer_for as answers
 use Rattle.map_records.proofs.answer_for.Symbol as answers-def
-use Rattle.map_records.proofs.answer_for.Symbol.{name as #tracks·answer-for}
+use Rattle.map_records.proofs.answer_for.Symbol.{name as #map-records·answer-for}
 use Rattle.map_records.proofs.answer_for.Met as answers-thm
 use Rattle.map_records.proofs.to_write as count
 use Rattle.map_records.proofs.to_write.Symbol as count-def
-use Rattle.map_records.proofs.to_write.Symbol.{name as #tracks·to-write}
+use Rattle.map_records.proofs.to_write.Symbol.{name as #map-records·to-write}
 use Rattle.map_records.proofs.to_write.Met as count-thm
 use Rattle.map_records.proofs.record_at as track
 use Rattle.map_records.proofs.record_at.Symbol as track-def
-use Rattle.map_records.proofs.record_at.Symbol.{name as #tracks·record-at}
+use Rattle.map_records.proofs.record_at.Symbol.{name as #map-records·record-at}
 use Rattle.map_records.proofs.record_at.Met as track-thm
-use Rattle.map_records.proofs.fill.Key.{name as #tracks·fill}
+use Rattle.map_records.proofs.fill.Key.{name as #map-records·fill}
 use Rattle.map_records.proofs.fill as fills
 use Rattle.map_records.proofs.fill.Statement as stated
 use Rattle.map_records.proofs.fill.Code as code
@@ -166,7 +166,7 @@ module _ {M : Type 1} (𝓤 : URA M) (H : Heap 𝓤) (A : Atoms 𝓤) (W : Given
 
   -- the loop, to n, with the answer r in a local
   module _ (r : MapAnswer) (u : Val) (is-answer : Is S.the-row r (u ∷ [])) (is-r : r ≡ found) (n : ℕ) (fit : n < 2 ^ 64) (is-n : n ≡ recordsToWrite found)
-      (𝓣 : Tables 𝓤 H) (known : Triple 𝓤 (𝓣 .C #tracks·record-at) (RecordAt 𝓤 H A mem run)) (l₀ l₁ l₂ l₃ l₄ l₅ l₆ l₇ l₈ l₉ l₁₀ l₁₁ : ℕ) where
+      (𝓣 : Tables 𝓤 H) (known : Triple 𝓤 (𝓣 .C #map-records·record-at) (RecordAt 𝓤 H A mem run)) (l₀ l₁ l₂ l₃ l₄ l₅ l₆ l₇ l₈ l₉ l₁₀ l₁₁ : ℕ) where
     abbrev Upto : Type 0
     Upto = (i : ℕ) × (i ≤ n)
 
@@ -271,7 +271,7 @@ module _ {M : Type 1} (𝓤 : URA M) (H : Heap 𝓤) (A : Atoms 𝓤) (W : Given
     from-loop : Sq W (At (0, zero-le)) (runs C Λ En mir′.t-5 (atRet En Post))
     from-loop = first ! $ blocks ! $ looped
 
-  walk : (𝓣 : Tables 𝓤 H) → Triple 𝓤 (𝓣 .C #tracks·answer-for) (AnswerFor 𝓤 H A mem run) → Triple 𝓤 (𝓣 .C #tracks·to-write) (ToWrite 𝓤 H A mem run) → Triple 𝓤 (𝓣 .C #tracks·record-at) (RecordAt 𝓤 H A mem run)
+  walk : (𝓣 : Tables 𝓤 H) → Triple 𝓤 (𝓣 .C #map-records·answer-for) (AnswerFor 𝓤 H A mem run) → Triple 𝓤 (𝓣 .C #map-records·to-write) (ToWrite 𝓤 H A mem run) → Triple 𝓤 (𝓣 .C #map-records·record-at) (RecordAt 𝓤 H A mem run)
       → ent 𝓤 (onEntry 𝓤 H A fills.signature (κ, (κ′, tt)) (q, (q′, tt)) x vals) (WpFn 𝓤 H (𝓣 .C) (𝓣 .Λ) code.function (sliceVal (b, o) (length ys) ∷ sv ∷ vint w64 at₀ ∷ []) Post)
   unfolding upTo
   walk 𝓣 known-answer known-count known =
@@ -306,7 +306,7 @@ module _ {M : Type 1} (𝓤 : URA M) (H : Heap 𝓤) (A : Atoms 𝓤) (W : Given
       from-loop r u is-answer is-r m (is .1) (is-m ∙ ap recordsToWrite is-r) 𝓣 known l₀ l₁ l₂ l₃ l₄ l₅ l₆ l₇ l₈ l₉ l₁₀ l₁₁))))))))))))))))))))
 
 module _ {M : Type 1} (𝓤 : URA M) (H : Heap 𝓤) (A : Atoms 𝓤) (W : Given 𝓤 H A) (mem : Memory → SProp 𝓤) (run : Routine → Fun 𝓤) (𝓣 : Tables 𝓤 H)
-    (known-answer : Triple 𝓤 (𝓣 .C #tracks·answer-for) (AnswerFor 𝓤 H A mem run)) (known-count : Triple 𝓤 (𝓣 .C #tracks·to-write) (ToWrite 𝓤 H A mem run)) (known : Triple 𝓤 (𝓣 .C #tracks·record-at) (RecordAt 𝓤 H A mem run)) where
+    (known-answer : Triple 𝓤 (𝓣 .C #map-records·answer-for) (AnswerFor 𝓤 H A mem run)) (known-count : Triple 𝓤 (𝓣 .C #map-records·to-write) (ToWrite 𝓤 H A mem run)) (known : Triple 𝓤 (𝓣 .C #map-records·record-at) (RecordAt 𝓤 H A mem run)) where
   fill-walks : Walks 𝓤 H A fills.ended stayed (WpFn 𝓤 H (𝓣 .C) (𝓣 .Λ) code.function) (fills.clauses 𝓤 H A mem run)
   fill-walks = walked 𝓤 H A fills.ended stayed (fills.clauses 𝓤 H A mem run) (WpFn 𝓤 H (𝓣 .C) (𝓣 .Λ) code.function)
       (λ κs. (slice-vals, (slice-vals, (uint-vals w64, tt)))) (λ κs. (mut-slice-tells (named 0) (κs .0) T.the-row, (shr-slice-tells (named 1) (κs .1 .0) u8, (uint-tells w64, tt))))
@@ -322,8 +322,8 @@ pub fill-spec : {M : Type 1} → stated.statement M
 unfolding code.routine tablesOf
 fill-spec 𝓤 H 𝓜 𝓖 𝓡 =
     entered 𝓤 H (tripleOf 𝓤 H (𝓖 .A) fills.signature (fills.spec 𝓤 H (𝓖 .A) (𝓜 .mem) (𝓡 .run)))
-    (tables 𝓤 H 𝓜 𝓡 code.env .C) (tables 𝓤 H 𝓜 𝓡 code.env .Λ) #tracks·fill code.function (code.unfolded 𝓤 H 𝓜 𝓡)
+    (tables 𝓤 H 𝓜 𝓡 code.env .C) (tables 𝓤 H 𝓜 𝓡 code.env .Λ) #map-records·fill code.function (code.unfolded 𝓤 H 𝓜 𝓡)
     (fill-meets 𝓤 H (𝓖 .A) (givenOf 𝓤 H 𝓜 𝓖) (𝓜 .mem) (𝓡 .run) (tablesOf 𝓤 H 𝓜 (tables 𝓤 H 𝓜 𝓡 code.env))
-    (cited 𝓤 H (AnswerFor 𝓤 H (𝓖 .A) (𝓜 .mem) (𝓡 .run)) 𝓜 𝓡 code.env #tracks·answer-for answers-def.routine code.calls-tracks·answer-for (answers-thm.met 𝓤 H 𝓜 𝓖 𝓡))
-    (cited 𝓤 H (ToWrite 𝓤 H (𝓖 .A) (𝓜 .mem) (𝓡 .run)) 𝓜 𝓡 code.env #tracks·to-write count-def.routine code.calls-tracks·to-write (count-thm.met 𝓤 H 𝓜 𝓖 𝓡))
-    (cited 𝓤 H (RecordAt 𝓤 H (𝓖 .A) (𝓜 .mem) (𝓡 .run)) 𝓜 𝓡 code.env #tracks·record-at track-def.routine code.calls-tracks·record-at (track-thm.met 𝓤 H 𝓜 𝓖 𝓡)))
+    (cited 𝓤 H (AnswerFor 𝓤 H (𝓖 .A) (𝓜 .mem) (𝓡 .run)) 𝓜 𝓡 code.env #map-records·answer-for answers-def.routine code.calls-map-records·answer-for (answers-thm.met 𝓤 H 𝓜 𝓖 𝓡))
+    (cited 𝓤 H (ToWrite 𝓤 H (𝓖 .A) (𝓜 .mem) (𝓡 .run)) 𝓜 𝓡 code.env #map-records·to-write count-def.routine code.calls-map-records·to-write (count-thm.met 𝓤 H 𝓜 𝓖 𝓡))
+    (cited 𝓤 H (RecordAt 𝓤 H (𝓖 .A) (𝓜 .mem) (𝓡 .run)) 𝓜 𝓡 code.env #map-records·record-at track-def.routine code.calls-map-records·record-at (track-thm.met 𝓤 H 𝓜 𝓖 𝓡)))

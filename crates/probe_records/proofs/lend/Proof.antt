@@ -1,4 +1,4 @@
--- `lent_records::lend` meets its contract: a walk of its MIR, by hand. The array's first n elements are lent to `tracks::fill` as a slice, for a lifetime that is made for the call, and come back at the last list that its
+-- `probe_records::lend` meets its contract: a walk of its MIR, by hand. The array's first n elements are lent to `map_records::fill` as a slice, for a lifetime that is made for the call, and come back at the last list that its
 -- contract says; the others are kept aside, and the array is whole again. All that the proof knows of the two functions that are called is that each meets its contract.
 -- Assumes nothing.
 use mathlib.Core.Path.{_≡_, refl, sym, ap, subst, _∙_}
@@ -61,7 +61,7 @@ use Rattle.map.proofs.MapAnswer.Laws as S′
 use Rattle.map_records.specs.Fill.{recordsAt, answerFor, lentAfter, Filled}
 use Rattle.map_records.proofs.fill as fills
 use Rattle.map_records.proofs.fill.Symbol as fills-def
-use Rattle.map_records.proofs.fill.Symbol.{name as #tracks·fill}
+use Rattle.map_records.proofs.fill.Symbol.{name as #map-records·fill}
 use Rattle.map_records.proofs.fill.Met as fills-thm
 use Rattle.probe_records.specs.Lent.{afterwards, afterFill}
 use Rattle.probe_records.specs.declared.After.{After}
@@ -69,9 +69,9 @@ use Rattle.probe_records.proofs.After as Q
 use Rattle.probe_records.proofs.After.Laws as Q′
 use Rattle.probe_records.proofs.left as left
 use Rattle.probe_records.proofs.left.Symbol as left-def
-use Rattle.probe_records.proofs.left.Symbol.{name as #lent-records·left}
+use Rattle.probe_records.proofs.left.Symbol.{name as #probe-records·left}
 use Rattle.probe_records.proofs.left.Met as left-thm
-use Rattle.probe_records.proofs.lend.Key.{name as #lent-records·lend}
+use Rattle.probe_records.proofs.lend.Key.{name as #probe-records·lend}
 use Rattle.probe_records.proofs.lend as lend
 use Rattle.probe_records.proofs.lend.Statement as stated
 use Rattle.probe_records.proofs.lend.Code as code
@@ -103,7 +103,7 @@ stayed = (stay-dropped array-slot yes, (stay-dropped number-slot yes, (stay-drop
 room : Room R 80
 room = (lit< tt, lit< tt)
 
--- the outcome of the call of `tracks::fill` on the first n is what the contract says
+-- the outcome of the call of `map_records::fill` on the first n is what the contract says
 reached : (xs : List Track) (n : ℕ) (s : List ℕ) (at₀ : ℕ) (r : MapAnswer) (zs : List Track) → length (take n xs) ≡ n → Filled (take n xs) s at₀ r zs → afterwards r (zs ++ drop-list n xs) ≡ afterFill xs n s at₀
 unfolding Filled afterFill
 reached xs n s at₀ r zs e f =
@@ -211,7 +211,7 @@ module _ {M : Type 1} (𝓤 : URA M) (H : Heap 𝓤) (A : Atoms 𝓤) (W : Given
       suffices ! _ (ends-at 𝓤 H A lend.ended stayed (lend.clauses 𝓤 H A mem′ run) W (((κ, tt), (q, tt), tt, args, vals), tt) v t (tt, (tt, (tt, (tt, tt)))) (tt, (tt, (tt, (tt, tt))))) $ says ! e $
       move ! (1 ∷ []) $ frame ! $ nothing ! $ nothing ! $ fjoin ! $ nothing ! $ fjoin ! $ nothing ! $ fjoin ! $ nothing ! $ fjoin ! $ frame ! $ done !
 
-  -- the call of `tracks::fill`, on the first n records in the local l
+  -- the call of `map_records::fill`, on the first n records in the local l
   abbrev lent-args : ℕ → GName → RefT (List Track) × (RefT (List ℕ) × (ℕ × Unit {0}))
   lent-args l γ = (x 𝓤 H A W xs long n l γ, (s, (at₀, tt)))
 
@@ -234,7 +234,7 @@ module _ {M : Type 1} (𝓤 : URA M) (H : Heap 𝓤) (A : Atoms 𝓤) (W : Given
   said-left : (r : MapAnswer) (ws : List Track) (t : After) → ent 𝓤 (ensured 𝓤 H A left.ended (left.clauses 𝓤 H A mem′ run) tt (r, (ws, tt)) tt t) (fact 𝓤 (t ≡ afterwards r ws))
   said-left r ws t = exE 𝓤 _ (λ es. snd∗ 𝓤 (sem 𝓤 H A (lasts left.ended tt (r, (ws, tt)) es)) (fact 𝓤 (t ≡ afterwards r ws)))
 
-  walk : (𝓣 : Tables 𝓤 H) → Triple 𝓤 (𝓣 .C #tracks·fill) (Fill 𝓤 H A mem′ run) → Triple 𝓤 (𝓣 .C #lent-records·left) (Left 𝓤 H A mem′ run)
+  walk : (𝓣 : Tables 𝓤 H) → Triple 𝓤 (𝓣 .C #map-records·fill) (Fill 𝓤 H A mem′ run) → Triple 𝓤 (𝓣 .C #probe-records·left) (Left 𝓤 H A mem′ run)
       → ent 𝓤 (onEntry 𝓤 H A lend.signature (κ, tt) (q, tt) args vals) (WpFn 𝓤 H (𝓣 .C) (𝓣 .Λ) code.function (val xs ∷ vint w64 n ∷ sv ∷ vint w64 at₀ ∷ []) Post)
   walk 𝓣 known-fill known-left =
       let typed-xs = array-typed R (LL.lawful T.the-type T′.the-laws 𝓤 H A W .typed) 80 xs (val xs ∷ []) is-xs .0 in
@@ -284,7 +284,7 @@ module _ {M : Type 1} (𝓤 : URA M) (H : Heap 𝓤) (A : Atoms 𝓤) (W : Given
       keep ! (0 ∷ 2 ∷ []) $ by ! (exits t v (is-t ∙ reached xs n (s .now) at₀ r (zs .0) taken filled)))))))))))))))))))))))))
 
 module _ {M : Type 1} (𝓤 : URA M) (H : Heap 𝓤) (A : Atoms 𝓤) (W : Given 𝓤 H A) (mem′ : Memory → SProp 𝓤) (run : Routine → Fun 𝓤) (𝓣 : Tables 𝓤 H)
-    (known-fill : Triple 𝓤 (𝓣 .C #tracks·fill) (Fill 𝓤 H A mem′ run)) (known-left : Triple 𝓤 (𝓣 .C #lent-records·left) (Left 𝓤 H A mem′ run)) where
+    (known-fill : Triple 𝓤 (𝓣 .C #map-records·fill) (Fill 𝓤 H A mem′ run)) (known-left : Triple 𝓤 (𝓣 .C #probe-records·left) (Left 𝓤 H A mem′ run)) where
   lend-walks : Walks 𝓤 H A lend.ended stayed (WpFn 𝓤 H (𝓣 .C) (𝓣 .Λ) code.function) (lend.clauses 𝓤 H A mem′ run)
   lend-walks = walked 𝓤 H A lend.ended stayed (lend.clauses 𝓤 H A mem′ run) (WpFn 𝓤 H (𝓣 .C) (𝓣 .Λ) code.function)
       (λ κs. (array-vals (LL.vals T.the-type T′.the-laws), (uint-vals w64, (slice-vals, (uint-vals w64, tt)))))
@@ -301,7 +301,7 @@ pub lend-spec : {M : Type 1} → stated.statement M
 unfolding code.routine tablesOf
 lend-spec 𝓤 H 𝓜 𝓖 𝓡 =
     entered 𝓤 H (tripleOf 𝓤 H (𝓖 .A) lend.signature (lend.spec 𝓤 H (𝓖 .A) (𝓜 .mem) (𝓡 .run)))
-    (tables 𝓤 H 𝓜 𝓡 code.env .C) (tables 𝓤 H 𝓜 𝓡 code.env .Λ) #lent-records·lend code.function (code.unfolded 𝓤 H 𝓜 𝓡)
+    (tables 𝓤 H 𝓜 𝓡 code.env .C) (tables 𝓤 H 𝓜 𝓡 code.env .Λ) #probe-records·lend code.function (code.unfolded 𝓤 H 𝓜 𝓡)
     (lend-meets 𝓤 H (𝓖 .A) (givenOf 𝓤 H 𝓜 𝓖) (𝓜 .mem) (𝓡 .run) (tablesOf 𝓤 H 𝓜 (tables 𝓤 H 𝓜 𝓡 code.env))
-    (cited 𝓤 H (Fill 𝓤 H (𝓖 .A) (𝓜 .mem) (𝓡 .run)) 𝓜 𝓡 code.env #tracks·fill fills-def.routine code.calls-tracks·fill (fills-thm.met 𝓤 H 𝓜 𝓖 𝓡))
-    (cited 𝓤 H (Left 𝓤 H (𝓖 .A) (𝓜 .mem) (𝓡 .run)) 𝓜 𝓡 code.env #lent-records·left left-def.routine code.calls-lent-records·left (left-thm.met 𝓤 H 𝓜 𝓖 𝓡)))
+    (cited 𝓤 H (Fill 𝓤 H (𝓖 .A) (𝓜 .mem) (𝓡 .run)) 𝓜 𝓡 code.env #map-records·fill fills-def.routine code.calls-map-records·fill (fills-thm.met 𝓤 H 𝓜 𝓖 𝓡))
+    (cited 𝓤 H (Left 𝓤 H (𝓖 .A) (𝓜 .mem) (𝓡 .run)) 𝓜 𝓡 code.env #probe-records·left left-def.routine code.calls-probe-records·left (left-thm.met 𝓤 H 𝓜 𝓖 𝓡)))

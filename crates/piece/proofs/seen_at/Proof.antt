@@ -1,17 +1,11 @@
 use borrow.Author.Needs.{needs}
-use Rattle.book_builder.proofs.seen_at.Statement.{statement}
-use Rattle.book_builder.proofs.seen_at.Tie as tie
-use Rattle.book_builder.proofs.seen_at.Reads as reads
-use Rattle.book_builder.proofs.seen_at.Lts as lts
-use Rattle.number.proofs.be4.Reads as be4-reads
-use borrow.Author.Needs.{needs}
-use native.Mathlib.Omega.{arith}
+use Rattle.piece.proofs.seen_at.Statement.{statement}
+use Rattle.piece.proofs.seen_at.Tie as tie
 use native.Mathlib.Omega.{arith}
 use Prim.Native.Nat.{_+_}
-use mathlib.Core.Path.{refl}
 use borrow.Author.Tests.{eq-eqb, ne-eqb}
 use Rattle.number.proofs.Laws.{be-lt}
-use Rattle.book_builder.specs.Inside.{seenAt}
+use Rattle.piece.specs.Seen.{seenAt}
 
 add-packet-type : tie.Need-add-packet-type
 add-packet-type c = search needs
