@@ -19,7 +19,8 @@ use Rattle.book.specs.declared.LookupAnswer.the-variants as lookup
 use Rattle.book_builder.specs.BookBuilder.{entriesIn, inRoom, buildAnswer, builtIn}
 use Rattle.book_builder.specs.declared.BuildAnswer.the-variants as build
 use Rattle.book_builder.proofs.Contracts.{Lent}
-use Rattle.book_builder.proofs.Same.{asSeek, lookup-is-seek}
+use Rattle.book_builder.proofs.Same.{lookup-is-seek}
+use Rattle.book_builder.specs.Same.{asSeek}
 use Rattle.agreement.specs.Inside.{likeRefusal, alike}
 
 self-alike : (a : LookupAnswer) → alike a (asSeek a) ≡ true

@@ -21,7 +21,8 @@ use Rattle.book_builder.specs.BookBuilder.{builtIn}
 use Rattle.book_builder.specs.declared.BuildAnswer.the-variants as build
 use Rattle.book_builder.proofs.build.Kinds as build-kinds
 use Rattle.book_builder.proofs.build.Reads as build-reads
-use Rattle.book_builder.proofs.Same.{asSeek, lookup-is-seek}
+use Rattle.book_builder.proofs.Same.{lookup-is-seek}
+use Rattle.book_builder.specs.Same.{asSeek}
 
 -- what whoever lends a slice of bytes knows of it: by owning it, that it has room (the `Good` of its kind); by the checker's rule for what is read (`shared-slice-known`), that it holds bytes.
 -- A denotation alone is any list, and does not tell; of other lists it would not hold (`bytes-needed` in paper_readings)

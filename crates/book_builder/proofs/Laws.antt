@@ -37,7 +37,7 @@ use Rattle.piece.specs.Seen.{Seeable, seenAt}
 use Rattle.book_builder.proofs.Seen.{seen}
 use Rattle.book_builder.specs.declared.BuildAnswer.the-variants as build
 
--- the packets from here on pass, progressAfter some progress
+-- the packets from here on pass, after some progress
 pub record Passing (s : List ℕ) (ps : Packets) : Type 0 where
   pub progress : Progress
   pub packets : ℕ
@@ -229,7 +229,7 @@ pub bytes-one : (e : Entry) → bookBytes (e ∷ []) ≡ recordBytes e
 unfolding bookBytes
 bytes-one e = append-nil (recordBytes e)
 
--- bytes of entries one progressAfter another
+-- bytes of entries one after another
 pub bytes-append : (a b : List Entry) → bookBytes (a ++ b) ≡ bookBytes a ++ bookBytes b
 unfolding bookBytes
 bytes-append [] b = refl

@@ -18,20 +18,12 @@ use Rattle.stream.specs.declared.Spot.{Spot}
 use Rattle.stream.specs.declared.Spot.the-variants as spot
 use Rattle.stream.specs.declared.CheckAnswer.{CheckAnswer}
 use Rattle.stream.specs.declared.CheckAnswer.the-variants as check
-use Rattle.stream.specs.declared.SeekAnswer.{SeekAnswer}
-use Rattle.stream.specs.declared.SeekAnswer.the-variants as seek
 use Rattle.book.specs.Book.{bookBytes, judgeBook, good, bookOf, Offset, nothing, there, firstIn, lookupOf, orNotThere as orNoRecord}
-use Rattle.book.specs.declared.LookupAnswer.{LookupAnswer}
-use Rattle.book.specs.declared.LookupAnswer.the-variants as lookup
 use Rattle.book.proofs.Coding.{length-bytes, book-back, lookup-back}
 use Rattle.book_builder.specs.BookBuilder.{recorded, entryOf, entriesHere, entriesOf, entriesIn, inRoom, buildAnswer, builtIn}
+use Rattle.book_builder.specs.Same.{asSeek}
 use Rattle.book_builder.specs.declared.BuildAnswer.the-variants as build
 use Rattle.book_builder.proofs.Sound.{sound}
-
--- a lookup's answer as seek gives it: the offset, or the refusal
-abbrev pub asSeek : LookupAnswer → SeekAnswer
-asSeek (lookup.At o) = seek.At o
-asSeek (lookup.Refused r) = seek.Refused r
 
 abbrev spotOf : Offset → Spot
 spotOf (there o) = spot.At o

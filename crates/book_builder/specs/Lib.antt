@@ -1,2 +1,3 @@
 pub mod BookBuilder
 pub mod Inside
+pub mod Same

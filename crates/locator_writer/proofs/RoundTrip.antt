@@ -1,4 +1,4 @@
--- The round trip: what was locatorWrittenIn at its place is read there as what was given, and the bytes before and after it are as they were.
+-- The round trip: what was written at its place is read there as what was given, and the bytes before and after it are as they were.
 use Prim.Native.Nat.{ℕ, _+_, _*_, _/_, _<_, _≤_}
 use mathlib.Core.Path.{_≡_, sym, _∙_, ap}
 use mathlib.Core.Bool.{true}
@@ -55,7 +55,7 @@ round-trip out at step ns n e =
       lengths = f .lengths;
     }
 
--- nothing is cut: what is locatorWrittenIn lies within its field, so that a number over 32 bits is always refused
+-- nothing is cut: what is written lies within its field, so that a number over 32 bits is always refused
 pub never-cut : (out : List ℕ) (at step : ℕ) (ns : List ℕ) (n : ℕ) → locatorAnswer out at step ns ≡ Length n
     → (0 < step) × (step ≤ 0xFFFFFFFF) × (length ns ≤ 1000) × ((k : ℕ) → getD ns k 0 ≤ 0xFFFFFFFF)
 never-cut out at step ns n e =
@@ -63,7 +63,7 @@ never-cut out at step ns n e =
     let fits = m .fits in
     (m .some, omega arith, m .few, all-small ns (m .all))
 
--- the other way: a table within its bounds is locatorWrittenIn wherever there is room for it
+-- the other way: a table within its bounds is written wherever there is room for it
 pub accepted : (out : List ℕ) (at step : ℕ) (ns : List ℕ) → 0 < step → step ≤ 0xFFFFFFFF → length ns ≤ 1000 → ((k : ℕ) → getD ns k 0 ≤ 0xFFFFFFFF)
     → at + (24 + 4 * length ns) ≤ length out → locatorAnswer out at step ns ≡ Length (24 + 4 * length ns)
 unfolding mayWrite

@@ -21,7 +21,7 @@ fn all_fit(offsets: &[u64]) -> bool
     true
 }
 
-// Whether a table of this step and these offsets may be locatorWrittenIn: else 24.
+// Whether a table of this step and these offsets may be written: else 24.
 fn may_write(step: u64, offsets: &[u64]) -> bool
     ensures { λ r. ⌜ r ≡ mayWrite step (now (offsets .entry)) ⌝ }
 {

@@ -5,6 +5,7 @@ use Prim.Native.Nat.{ℕ, _+_, _-_, _%_}
 use mathlib.Core.List.{List, [], _∷_, _++_, map}
 use lib.ListN.{length, replicate}
 use Rattle.number.specs.Number.{beBytes}
+use Rattle.packet.specs.Packet.{typeMap}
 use Rattle.map_items.specs.Items.{Item, itemsBytes}
 use Rattle.map_tracks.specs.Tracks as tracks
 use Rattle.map_tracks.specs.Tracks.{Description}
@@ -40,7 +41,7 @@ packetLength m t = 22 + length m + length t + padding (22 + length m + length t)
 
 -- leader, type BC, length, reserved, trailer; version E0 and the reserved byte. With four zeros it begins with the header of packet_writer's `headerOf`
 unfoldable pub front : ℕ → List ℕ → ℕ → List ℕ
-front len spare second = 0 ∷ 0 ∷ 0 ∷ 0 ∷ 1 ∷ 0xBC ∷ (beBytes 4 len ++ (spare ++ (0xE1 ∷ 0xE2 ∷ 0xE0 ∷ second ∷ [])))
+front len spare second = 0 ∷ 0 ∷ 0 ∷ 0 ∷ 1 ∷ typeMap ∷ (beBytes 4 len ++ (spare ++ (0xE1 ∷ 0xE2 ∷ 0xE0 ∷ second ∷ [])))
 
 -- a packet of two sections' bytes
 unfoldable pub packetOf : List ℕ → ℕ → List ℕ → List ℕ → List ℕ

@@ -1,4 +1,4 @@
--- A section's splitItems at a place, and the splitItems of what was put together.
+-- A section's split at a place, and the split of what was put together.
 use Prim.Native.Nat.{ℕ, zero, suc, _+_, _-_, _<_, _≤_}
 use mathlib.Core.Path.{_≡_, refl, _∙_}
 use mathlib.Core.List.{List, [], _∷_, _++_, append-assoc}
@@ -27,7 +27,7 @@ itemAt s at n = record { tag = getD s at 0; value = take n (drop (at + 2) s) }
 pub value-length : (s : List ℕ) (at n : ℕ) → n ≤ length s - (at + 2) → length (take n (drop (at + 2) s)) ≡ n
 value-length s at n h = length-take-le n (drop (at + 2) s) (simp length-drop h)
 
--- the splitItems at a place, by what stands there
+-- the split at a place, by what stands there
 module _ (s : List ℕ) (at f : ℕ) (h : zero < f) where
   pub split-done : length s ≤ at → splitItems f (drop at s) ≡ clean
   unfolding splitItems

@@ -21,6 +21,7 @@ use Rattle.map_items.specs.declared.Verdict.{Verdict}
 use Rattle.map_items.specs.declared.Verdict.the-variants as verdict
 use Rattle.map_items.proofs.Split as items
 use Rattle.map_tracks.specs.Tracks as tracks
+use Rattle.map_tracks.specs.Inside as inside-tracks
 use Rattle.map_tracks.proofs.Split as split
 use Rattle.map.specs.Map.{part, layoutOf, materialIn, tracksIn, mapVerdict, onVerdict, answerOf, mapFrom, mapAt, materialSays, listedIn}
 use Rattle.map.specs.Encode.{MapParts, described, padding, sectionBytes, packetLength, front, packetOf, encode}
@@ -43,7 +44,7 @@ pub struck-good : (p : MapParts) → Good p → Good (struck p)
 unfolding struck
 struck-good p g = (kept-good section.Material materialStays [] [] 0 0 (p .material) (λ t e. e) (g .0), struck-tracks-good [] [] (p .tracks) (λ t e. e) (g .1))
 
-fits : (p : MapParts) → length (p .spare) ≡ 4 → length (itemsBytes (p .material)) < 65536 → tracks.descriptionsSize (map described (p .tracks)) < 65536 → Fit p
+fits : (p : MapParts) → length (p .spare) ≡ 4 → length (itemsBytes (p .material)) < 65536 → inside-tracks.descriptionsSize (map described (p .tracks)) < 65536 → Fit p
 fits p f m t =
     record {
       four = f;

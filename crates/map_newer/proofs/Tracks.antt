@@ -17,6 +17,7 @@ use Rattle.map_items.proofs.Anywhere.{both-accepted, verdict-bytes, judge-anywh
 use Rattle.map_items.proofs.Split as split
 use Rattle.map_tracks.specs.Tracks.{over, trackOver, trackVerdict, judgeTracks, isListed}
 use Rattle.map_tracks.specs.Tracks as tracks
+use Rattle.map_tracks.specs.Inside as inside-tracks
 use Rattle.map_tracks.proofs.Anywhere.{passed, pass, tracks-anywhere}
 use Rattle.map.specs.Encode.{TrackParts, described}
 use Rattle.map.specs.Parts.{listedOf}
@@ -183,19 +184,19 @@ struck-set-tracks (suc j) k i (t ∷ ts) u = go (isListed (described t)) (struck
     go false rest = rest
 
 -- the bytes that they take
-pub struck-tracks-size : (ts : List TrackParts) → tracks.descriptionsSize (map described (map struckTrack (listedOf ts))) ≤ tracks.descriptionsSize (map described ts)
-unfolding tracks.descriptionsSize listedOf described struckTrack
+pub struck-tracks-size : (ts : List TrackParts) → inside-tracks.descriptionsSize (map described (map struckTrack (listedOf ts))) ≤ inside-tracks.descriptionsSize (map described ts)
+unfolding inside-tracks.descriptionsSize listedOf described struckTrack
 struck-tracks-size [] = omega arith
 struck-tracks-size (t ∷ ts) = go (isListed (described t)) (struck-tracks-size ts)
   where
-    go : (b : Bool) → tracks.descriptionsSize (map described (map struckTrack (listedOf ts))) ≤ tracks.descriptionsSize (map described ts)
-        → tracks.descriptionsSize (map described (map struckTrack (pick b (t ∷ listedOf ts) (listedOf ts)))) ≤ 4 + length (itemsBytes (t .items)) + tracks.descriptionsSize (map described ts)
+    go : (b : Bool) → inside-tracks.descriptionsSize (map described (map struckTrack (listedOf ts))) ≤ inside-tracks.descriptionsSize (map described ts)
+        → inside-tracks.descriptionsSize (map described (map struckTrack (pick b (t ∷ listedOf ts) (listedOf ts)))) ≤ 4 + length (itemsBytes (t .items)) + inside-tracks.descriptionsSize (map described ts)
     go true h = omega (arith, split.length-bytes (t .items), split.length-bytes (kept trackStays (t .items)), kept-size trackStays (t .items))
     go false h = omega arith
 
 pub set-tracks-size : (j k : ℕ) (i : Item) (ts : List TrackParts) → j < length ts
-    → tracks.descriptionsSize (map described (setInTrack j k i ts)) ≡ tracks.descriptionsSize (map described ts) + 2 + length (i .value)
-unfolding tracks.descriptionsSize described setInTrack
+    → inside-tracks.descriptionsSize (map described (setInTrack j k i ts)) ≡ inside-tracks.descriptionsSize (map described ts) + 2 + length (i .value)
+unfolding inside-tracks.descriptionsSize described setInTrack
 set-tracks-size zero k i [] h = absurd (omega arith)
 set-tracks-size (suc j) k i [] h = absurd (omega arith)
 set-tracks-size zero k i (t ∷ ts) h = omega (arith, split.length-bytes (t .items), split.length-bytes (setAt k i (t .items)), set-size k i (t .items))

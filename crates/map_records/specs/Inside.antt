@@ -8,7 +8,7 @@ use Rattle.map_answer.specs.declared.Value.the-variants as value
 use Rattle.map.specs.declared.MapAnswer.{MapAnswer}
 use Rattle.map.specs.declared.MapAnswer.the-variants as map
 
--- a record in which nothing is present: what fills the place of a track that is not there, within the code. It is never recordsToWrite, and `Filled` does not rest on it
+-- a record in which nothing is present: what fills the place of a track that is not there, within the code. It is never written, and `Filled` does not rest on it
 unfoldable pub blank : Track
 blank =
     record {

@@ -1,4 +1,4 @@
--- A track section's splitTracks at a place, and the splitTracks of what was put together.
+-- A track section's split at a place, and the split of what was put together.
 use Prim.Native.Nat.{ℕ, zero, suc, _+_, _-_, _*_, _/_, _%_, _<_, _≤_}
 use mathlib.Core.Path.{_≡_, refl, sym, _∙_}
 use mathlib.Core.List.{List, [], _∷_, _++_}

@@ -1,4 +1,4 @@
--- What was mapWrittenIn is what the readers give: specs/Readers.antt has the statement.
+-- What was written is what the readers give: specs/Readers.antt has the statement.
 use Prim.Native.Nat.{ℕ, zero, suc, _/_, _≤_, _<_}
 use mathlib.Core.Path.{_≡_, refl, sym, _∙_, ap}
 use mathlib.Core.List.{List, [], _∷_, _++_, map}

@@ -1,4 +1,4 @@
--- The round trip: what was mapWrittenIn at its place is read there as what was given, and the bytes before and after it are as they were.
+-- The round trip: what was written at its place is read there as what was given, and the bytes before and after it are as they were.
 use Prim.Native.Nat.{ℕ, _+_, _-_, _≤_}
 use mathlib.Core.Path.{_≡_, refl, sym, _∙_}
 use mathlib.Core.Bool.{Bool, true, false}

@@ -73,7 +73,7 @@ pub edges :
     × (mapAnswer [] 0 text (material 0) (track 10 1 (at 0 2) absent ++ track 10 1 (at 0 2) absent) ≡ refused 10)
     × (mapAnswer [] 0 (0x41 ∷ 0x80 ∷ []) (material 0) (track 10 1 (at 0 1) absent ++ track 10 1 (at 0 2) absent) ≡ refused 11)
     × (mapAnswer [] 0 (0x41 ∷ 0x80 ∷ []) (material 4294967296) (track 10 1 (at 0 1) absent ++ track 10 1 (at 0 2) absent) ≡ refused 24)
-    -- an auxiliary item beside a null name; beside no name it is mapWrittenIn
+    -- an auxiliary item beside a null name; beside no name it is written
     × (mapAnswer [] 0 (replicate 8 1) (material 0) ((10 ∷ 1 ∷ []) ++ at 0 0 ++ at 0 8 ++ replicate 15 0) ≡ refused 24)
     × (mapAnswer [] 0 (replicate 8 1) (material 0) ((10 ∷ 1 ∷ []) ++ absent ++ at 0 8 ++ replicate 15 0) ≡ refused 13)
     -- 4D beside 4F

@@ -3,7 +3,7 @@ use Prim.Native.Nat.{ℕ, _+_}
 use mathlib.Core.Path.{_≡_}
 use mathlib.Core.List.{List}
 use lib.ListN.{length, take, drop}
-use Rattle.packet.specs.Packet.{headerAt}
+use Rattle.packet.specs.Packet.{typeMap, headerAt}
 use Rattle.packet.specs.declared.PacketAnswer.the-variants.{Whole}
 use Rattle.map_tracks.specs.Tracks.{kthOf}
 use Rattle.map.specs.Map.{materialSays, listedIn, mapAt, trackAt, onKth}
@@ -17,7 +17,7 @@ pub record ReadBack (out : List ℕ) (at : ℕ) (text ms ts : List ℕ) (n : ℕ
   -- the packet stands at its place, and the answer is its length
   pub long : n ≡ length (mapPacket text ms ts)
   pub stands : take n (drop at now) ≡ mapPacket text ms ts
-  pub header : headerAt now at ≡ Whole (record { «packet_type» = 0xBC; len = n })
+  pub header : headerAt now at ≡ Whole (record { «packet_type» = typeMap; len = n })
   -- the reader's answer there: count, material, and the records by their number
   pub read : mapAt now at ≡ Says (record { count = length (listedIn (mapPacket text ms ts)); material = materialSays (mapPacket text ms ts) })
   pub track : (k : ℕ) → trackAt now at k ≡ onKth (kthOf k (listedIn (mapPacket text ms ts)))

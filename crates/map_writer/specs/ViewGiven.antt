@@ -1,4 +1,4 @@
--- What was given, as an answer shows it, places aside: what a reader of the written map is to be viewGiven.
+-- What was given, as an answer shows it, places aside: what a reader of the written map is to be told.
 use Prim.Native.Nat.{ℕ, zero, suc, _+_, _/_}
 use mathlib.Core.List.{List, [], _∷_, _++_}
 use lib.ListN.{length, getD, take, drop}

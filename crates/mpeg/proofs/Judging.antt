@@ -1,4 +1,4 @@
--- The judgeLines at the lines from a place on: at the end, at a malformed line, at a line that is passed over.
+-- The judge at the lines from a place on: at the end, at a malformed line, at a line that is passed over.
 use Prim.Native.Nat.{ℕ, _+_, _<_, _≤_}
 use mathlib.Core.Path.{_≡_, _∙_}
 use mathlib.Core.List.{List}

@@ -1,4 +1,4 @@
--- What a step tells of its piece: only EOS ends a stream, and progressAfter any other the progress is one packet further.
+-- What a step tells of its piece: only EOS ends a stream, and after any other the progress is one packet further.
 use Prim.Native.Nat.{ℕ, _+_}
 use mathlib.Core.Path.{_≡_, refl}
 use mathlib.Core.Bool.{Bool, true, false}

@@ -1,4 +1,4 @@
--- The order of packets (RDD 14, clauses 5.1 and 5.2; 01, "Stream, seek, book"): one piece progressAfter another, with the type that the latest map lists under a media packet's ID, and whether bytes follow.
+-- The order of packets (RDD 14, clauses 5.1 and 5.2; 01, "Stream, seek, book"): one piece after another, with the type that the latest map lists under a media packet's ID, and whether bytes follow.
 use Prim.Native.Nat.{ℕ, _+_}
 use mathlib.Core.Bool.{Bool, true, false, not}
 use lib.Dec.{eqb, leb}
@@ -15,7 +15,7 @@ use Rattle.order.specs.declared.Step.the-variants.{Next, Ended, Refused}
 abbrev pub started : Progress
 started = record { count = 0; «since_map» = 0; flt = false; «eos_due» = false; umf = false }
 
--- 19: progressAfter an FLT that did not directly follow the first map only EOS may stand, and a second FLT nowhere
+-- 19: after an FLT that did not directly follow the first map only EOS may stand, and a second FLT nowhere
 unfoldable pub misplaced : Bool → Bool → ℕ → Bool
 misplaced eosDue flt packetType = pick eosDue (not (eqb packetType typeEos)) (pick flt (eqb packetType typeFlt) false)
 
@@ -34,7 +34,7 @@ eitherType flag packetType wanted = pick flag true (eqb packetType wanted)
 unfoldable pub falls : ℕ → ℕ → Bool
 falls count packetType = pick (eqb packetType typeFlt) (not (eqb count 1)) false
 
--- the progress progressAfter a packet
+-- the progress after a packet
 unfoldable pub progressAfter : Progress → ℕ → Progress
 progressAfter p packetType =
     record {

@@ -42,7 +42,7 @@ pub fn start() -> Progress
     }
 }
 
-// 19: a second FLT, or a packet that is no EOS progressAfter an FLT that did not directly follow the first map.
+// 19: a second FLT, or a packet that is no EOS after an FLT that did not directly follow the first map.
 fn is_misplaced(eos_due: bool, flt: bool, packet_type: u8) -> bool
     ensures { λ r. ⌜ r ≡ misplaced «eos_due» flt «packet_type» ⌝ }
 {
@@ -97,7 +97,7 @@ fn falls_due(count: usize, packet_type: u8) -> bool
     false
 }
 
-// The progress progressAfter a packet that may stand where it does.
+// The progress after a packet that may stand where it does.
 fn passed(p: Progress, packet_type: u8) -> Progress
     requires { ⌜ (p .count + 1 < 2 ^ 64) × (p .«since_map» + 1 < 2 ^ 64) ⌝ }
     ensures { λ r. ⌜ r ≡ progressAfter p «packet_type» ⌝ }

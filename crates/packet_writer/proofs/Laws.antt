@@ -1,4 +1,4 @@
--- What every writer's packet is to its buffer: it stands at its place, and the bytes before and bufferAfter it are as they were.
+-- What every writer's packet is to its buffer: it stands at its place, and the bytes before and after it are as they were.
 use Prim.Native.Nat.{ℕ, _+_, _-_, _≤_}
 use mathlib.Core.Path.{_≡_, refl, sym, _∙_, ap}
 use mathlib.Core.List.{List, _++_, append-assoc, append-nil}

@@ -2,7 +2,8 @@
 use mathlib.Core.Path.{sym, _∙_, ap}
 use Rattle.stream.proofs.Counted.{check-counts}
 use Rattle.stream.proofs.Sought.{answer-carries, carrier-answers, none-is-16, refused-is-none, refused-alike}
-use Rattle.book_builder.proofs.Same.{asSeek, beyond-stays, lookup-is-seek}
+use Rattle.book_builder.proofs.Same.{beyond-stays, lookup-is-seek}
+use Rattle.book_builder.specs.Same.{asSeek}
 use Rattle.agreement.proofs.Contract.{never-two}
 use Rattle.paper_readings.proofs.Given.{check-is, seek-is, lookup-is}
 use Rattle.paper_readings.proofs.Calls.{built-is}
@@ -19,7 +20,7 @@ seek-and-book =
       unchecked = λ s r c track field x g. seek-is s track field x g ∙ refused-alike track field s r (sym (check-is s _ c));
       book = λ s b small l n o built track field y found z sought.
           let e = built-is l s _ o built in
-          ap asSeek (rw (e .1) at (lookup-is _ track field y found)) ∙ lookup-is-seek s b small l n (sym (e .0)) track field ∙ sym (seek-is s track field z sought);
+          ap asSeek (rw (e .1) at (lookup-is _ track field y found)) ∙ lookup-is-seek s (λ i. record { fits = b i }) small l n (sym (e .0)) track field ∙ sym (seek-is s track field z sought);
       beyond = λ l s n o built. let e = built-is l s _ o built in rw (e .1) (beyond-stays l s n (sym (e .0)));
       never-two = never-two;
     }

@@ -14,7 +14,7 @@ what-is-read =
     record {
       codes = λ tag n t h. code-says tag n t h;
       parameters = λ v p g. means v p (sym (parameters-is v _ g));
-      tracks = λ p b v. map-64 p b v;
+      tracks = λ p b v. map-64 p (λ i. record { fits = b i }) v;
       marked = readings-agree;
       order = cases-agree;
       stream = computed;

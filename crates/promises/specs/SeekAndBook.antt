@@ -3,13 +3,12 @@
 use Prim.Native.Nat.{ℕ, _*_, _^_, _<_}
 use mathlib.Core.Path.{_≡_}
 use mathlib.Core.List.{List}
-use lib.ListN.{length, take, drop}
+use lib.ListN.{length, getD, take, drop}
 use contract.Lifetimes.{Lfts}
 use borrow.Fn.Kinds.{endedOf, resT, Dens}
 use denote.Triple.Clauses.{AtExit}
 use Rattle.plate.specs.Plate.{refusal}
 use Rattle.plate.specs.declared.Refusal.{Refusal}
-use Rattle.number.proofs.Laws.{Bytes}
 use Rattle.stream.specs.Stream.{packets}
 use Rattle.stream.specs.Sought.{None, First}
 use Rattle.stream.specs.declared.CheckAnswer.the-variants as check
@@ -17,7 +16,7 @@ use Rattle.stream.specs.declared.SeekAnswer.{SeekAnswer}
 use Rattle.stream.specs.declared.SeekAnswer.the-variants as seek
 use Rattle.book.specs.declared.LookupAnswer.{LookupAnswer}
 use Rattle.book_builder.specs.declared.BuildAnswer.the-variants as build
-use Rattle.book_builder.proofs.Same.{asSeek}
+use Rattle.book_builder.specs.Same.{asSeek}
 use Rattle.agreement.specs.declared.Agreement.the-variants.{Two}
 use Rattle.agreement.proofs.compare.Kinds as compare-kinds
 use Rattle.agreement.proofs.compare.Reads as compare-reads
@@ -34,8 +33,8 @@ pub record SeekAndBook : Type 0 where
   pub none : (s : List ℕ) (n : ℕ) → Checks s (check.Packets n) → (track field : ℕ) → None track field (packets s .list) → (x : SeekAnswer) → Seeks s track field x → x ≡ seek.Refused (refusal 16 0)
   pub refused : (s : List ℕ) (n : ℕ) → Checks s (check.Packets n) → (track field : ℕ) (r : Refusal) → Seeks s track field (seek.Refused r) → None track field (packets s .list)
   pub unchecked : (s : List ℕ) (r : Refusal) → Checks s (check.Refused r) → (track field : ℕ) (x : SeekAnswer) → Seeks s track field x → x ≡ seek.Refused r
-  -- a book of n records that was built from lent bytes: look-up in it gives what seek gives in the stream, for every track and field; the bytes beyond it stay
-  pub book : (s : List ℕ) → Bytes s → length s < 2 ^ 64 → (l : List ℕ) (n : ℕ) (o : List ℕ) → BuildsInto l s (build.Records n) o
+  -- a book of n records that was built from lent bytes, each under 256 and fewer than 2^64, as every slice has them: look-up in it gives what seek gives in the stream, for every track and field; the bytes beyond it stay
+  pub book : (s : List ℕ) → ((i : ℕ) → getD s i 0 < 256) → length s < 2 ^ 64 → (l : List ℕ) (n : ℕ) (o : List ℕ) → BuildsInto l s (build.Records n) o
       → (track field : ℕ) (y : LookupAnswer) → Looks (take (16 * n) o) track field y → (z : SeekAnswer) → Seeks s track field z → asSeek y ≡ z
   pub beyond : (l s : List ℕ) (n : ℕ) (o : List ℕ) → BuildsInto l s (build.Records n) o → drop (16 * n) o ≡ drop (16 * n) l
   -- and a program that builds, looks up and seeks never meets two answers, whatever it is lent

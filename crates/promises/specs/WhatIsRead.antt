@@ -4,8 +4,7 @@ use Prim.Native.Nat.{ℕ, _≤_, _<_, _^_}
 use mathlib.Core.Path.{_≡_}
 use mathlib.Core.List.{List}
 use mathlib.Core.Logic.{_⊎_}
-use lib.ListN.{length}
-use Rattle.number.proofs.Laws.{Bytes}
+use lib.ListN.{length, getD}
 use Rattle.map_items.specs.declared.Verdict.the-variants.{Accepted}
 use Rattle.map_answer.specs.Answer.{CodeSays}
 use Rattle.map.specs.Map.{mapVerdict, listedIn}
@@ -22,8 +21,8 @@ pub record WhatIsRead : Type 0 where
   pub codes : (tag n : ℕ) → (tag ≡ 0x50) ⊎ ((tag ≡ 0x51) ⊎ (tag ≡ 0x52)) → n < 2 ^ 32 → CodeSays tag n
   -- the parameters of an accepted auxiliary text are the numbers that its lines give; Br is the float with the bits of N divided by 1,000,000
   pub parameters : (v : List ℕ) (p : parameters.Parameters) → Parameters v (Given p) → Means v p
-  -- an accepted map lists 64 tracks at most
-  pub tracks : (p : List ℕ) → Bytes p → mapVerdict p ≡ Accepted → length (listedIn p) ≤ 64
+  -- an accepted map, of bytes, lists 64 tracks at most
+  pub tracks : (p : List ℕ) → ((i : ℕ) → getD p i 0 < 256) → mapVerdict p ≡ Accepted → length (listedIn p) ≤ 64
   -- the readings that the paper marks, the order of faults in maps and texts, and a whole stream with its seeks and its book
   pub marked : Agree readings
   pub order : Agree cases

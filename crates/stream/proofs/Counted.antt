@@ -22,7 +22,7 @@ use Rattle.stream.specs.declared.CheckAnswer.the-variants as check
 no : {X : Type 0} (r : _) (n : ℕ) → check.Refused r ≡ check.Packets n → X
 no r n e = absurd (let z : _≡_ {A = ℕ} 0 1 = cc in omega arith)
 
--- of some packets, progressAfter some progress: if they pass, the number is theirs and that of the packets before
+-- of some packets, after some progress: if they pass, the number is theirs and that of the packets before
 abbrev Counts : List ℕ → Packets → Progress → ℕ → Type 0
 Counts s ps p n = judgePackets (length s) p (ps .list) (ps .end) ≡ check.Packets n → p .count + length (ps .list) ≡ n
 

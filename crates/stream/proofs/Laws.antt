@@ -29,7 +29,7 @@ use Rattle.stream.specs.declared.Run.{Run}
 use Rattle.stream.specs.declared.Run.the-variants as run
 use Rattle.stream.specs.declared.Pass.{Pass}
 
--- what the packets from an offset on come to, progressAfter some progress and a first carrier
+-- what the packets from an offset on come to, after some progress and a first carrier
 abbrev comesTo : List ℕ → ℕ → ℕ → Progress → Spot → Packets → Run
 comesTo s track field p found ps = collect (judgePackets (length s) p (ps .list) (ps .end)) (orFirst found (firstOf track field (ps .list)))
 

@@ -1,3 +1,4 @@
+-- `agreement::compare` meets its contract: the text that the checker prints, with the answers to its needs.
 use borrow.Author.Needs.{needs}
 use Rattle.agreement.proofs.compare.Statement.{statement}
 use Rattle.agreement.proofs.compare.Tie as tie

@@ -1,3 +1,4 @@
+-- `agreement::is_alike` meets its contract: the text that the checker prints, with the answers to its needs.
 use borrow.Author.Needs.{needs}
 use Rattle.agreement.proofs.is_alike.Statement.{statement}
 use Rattle.agreement.proofs.is_alike.Tie as tie

@@ -1,3 +1,4 @@
+-- `agreement::is_one` meets its contract: the text that the checker prints, with the answers to its needs.
 use Rattle.agreement.proofs.is_one.Statement.{statement}
 use Rattle.agreement.proofs.is_one.Tie as tie
 use borrow.Author.Tests.{eq-eqb, ne-eqb}

@@ -1,3 +1,4 @@
+-- `book::is_sound` meets its contract: the text that the checker prints, with the answers to its needs.
 use borrow.Author.Needs.{needs}
 use Rattle.book.proofs.is_sound.Statement.{statement}
 use Rattle.book.proofs.is_sound.Tie as tie

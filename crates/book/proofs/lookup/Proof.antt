@@ -1,3 +1,4 @@
+-- `book::lookup` meets its contract: the text that the checker prints, with the answers to its needs.
 use Rattle.book.proofs.lookup.Statement.{statement}
 use Rattle.book.proofs.lookup.Tie as tie
 use Rattle.book.proofs.lookup.Reads as reads

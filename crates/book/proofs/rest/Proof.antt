@@ -1,3 +1,4 @@
+-- `book::rest` meets its contract: the text that the checker prints, with the answers to its needs.
 use Rattle.book.proofs.rest.Statement.{statement}
 use Rattle.book.proofs.rest.Tie as tie
 use Rattle.book.proofs.rest.Reads as reads

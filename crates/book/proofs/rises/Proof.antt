@@ -1,3 +1,4 @@
+-- `book::rises` meets its contract: the text that the checker prints, with the answers to its needs.
 use Rattle.book.proofs.rises.Statement.{statement}
 use Rattle.book.proofs.rises.Tie as tie
 use borrow.Author.Tests.{eq-eqb, ne-eqb}

@@ -1,3 +1,4 @@
+-- `book::unless_torn` meets its contract: the text that the checker prints, with the answers to its needs.
 use borrow.Author.Needs.{needs}
 use Rattle.book.proofs.unless_torn.Statement.{statement}
 use Rattle.book.proofs.unless_torn.Tie as tie

@@ -1,3 +1,4 @@
+-- `book_builder::build` meets its contract: the text that the checker prints, with the answers to its needs.
 use borrow.Author.Needs.{needs}
 use Rattle.book_builder.proofs.build.Statement.{statement}
 use Rattle.book_builder.proofs.build.Tie as tie

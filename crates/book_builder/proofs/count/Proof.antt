@@ -1,3 +1,4 @@
+-- `book_builder::count` meets its contract: the text that the checker prints, with the answers to its needs.
 use Rattle.book_builder.proofs.count.Statement.{statement}
 use Rattle.book_builder.proofs.count.Tie as tie
 use Rattle.book_builder.proofs.count.Reads as reads

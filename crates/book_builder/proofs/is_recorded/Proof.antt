@@ -1,3 +1,4 @@
+-- `book_builder::is_recorded` meets its contract: the text that the checker prints, with the answers to its needs.
 use borrow.Author.Needs.{needs}
 use Rattle.book_builder.proofs.is_recorded.Statement.{statement}
 use Rattle.book_builder.proofs.is_recorded.Tie as tie

@@ -1,3 +1,4 @@
+-- `book_builder::records_of` meets its contract: the text that the checker prints, with the answers to its needs.
 use borrow.Author.Needs.{needs}
 use Rattle.book_builder.proofs.records_of.Statement.{statement}
 use Rattle.book_builder.proofs.records_of.Tie as tie

@@ -1,3 +1,4 @@
+-- `book_builder::write` meets its contract: the text that the checker prints, with the answers to its needs.
 use Rattle.book_builder.proofs.write.Statement.{statement}
 use Rattle.book_builder.proofs.write.Tie as tie
 use Rattle.book_builder.proofs.write.Reads as reads

@@ -1,3 +1,4 @@
+-- `console::bits_of` meets its contract: the text that the checker prints, with the answers to its needs.
 use Rattle.console.proofs.bits_of.Statement.{statement}
 use Rattle.console.proofs.bits_of.Tie as tie
 use mathlib.Core.Path.{_≡_, sym, subst}

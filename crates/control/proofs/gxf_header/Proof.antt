@@ -1,3 +1,4 @@
+-- `control::gxf_header` meets its contract: the text that the checker prints, with the answers to its needs.
 use borrow.Author.Needs.{needs}
 use Rattle.control.proofs.gxf_header.Statement.{statement}
 use Rattle.control.proofs.gxf_header.Tie as tie
@@ -10,8 +11,8 @@ header-requires c κs = search needs
 enum-known-p : tie.Need-enum-known-p
 enum-known-p c = search needs
 
-cast-kind : tie.Need-cast-kind
-cast-kind c = search needs
+cast-packet-type : tie.Need-cast-packet-type
+cast-packet-type c = search needs
 
 enum-known-r : tie.Need-enum-known-r
 enum-known-r c = search needs
@@ -30,4 +31,4 @@ returns-2 c = simp (sym (c .before .before .before .before .header .ensures) ∙
 pub gxf-header-spec : {M : Type 1} → statement M
 gxf-header-spec =
     tie.close
-    (tie.spec header-requires enum-known-p cast-kind enum-known-r cast-number returns returns-2)
+    (tie.spec header-requires enum-known-p cast-packet-type enum-known-r cast-number returns returns-2)

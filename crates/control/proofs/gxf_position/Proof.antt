@@ -1,3 +1,4 @@
+-- `control::gxf_position` meets its contract: the text that the checker prints, with the answers to its needs.
 use borrow.Author.Needs.{needs}
 use Rattle.control.proofs.gxf_position.Statement.{statement}
 use Rattle.control.proofs.gxf_position.Tie as tie

@@ -1,3 +1,4 @@
+-- `control::gxf_seek` meets its contract: the text that the checker prints, with the answers to its needs.
 use borrow.Author.Needs.{needs}
 use Rattle.control.proofs.gxf_seek.Statement.{statement}
 use Rattle.control.proofs.gxf_seek.Tie as tie

@@ -1,3 +1,4 @@
+-- `count_book::gxf_build` meets its contract: the text that the checker prints, with the answers to its needs.
 use borrow.Author.Needs.{needs}
 use Rattle.count_book.proofs.gxf_build.Statement.{statement}
 use Rattle.count_book.proofs.gxf_build.Tie as tie

@@ -1,3 +1,4 @@
+-- `count_map::accepted` meets its contract: the text that the checker prints, with the answers to its needs.
 use borrow.Author.Needs.{needs}
 use Rattle.count_map.proofs.accepted.Statement.{statement}
 use Rattle.count_map.proofs.accepted.Tie as tie

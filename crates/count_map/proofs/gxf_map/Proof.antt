@@ -1,3 +1,4 @@
+-- `count_map::gxf_map` meets its contract: the text that the checker prints, with the answers to its needs.
 use borrow.Author.Needs.{needs}
 use Rattle.count_map.proofs.gxf_map.Statement.{statement}
 use Rattle.count_map.proofs.gxf_map.Tie as tie

@@ -1,3 +1,4 @@
+-- `count_stream::gxf_check` meets its contract: the text that the checker prints, with the answers to its needs.
 use borrow.Author.Needs.{needs}
 use Rattle.count_stream.proofs.gxf_check.Statement.{statement}
 use Rattle.count_stream.proofs.gxf_check.Tie as tie

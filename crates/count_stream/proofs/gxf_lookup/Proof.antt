@@ -1,3 +1,4 @@
+-- `count_stream::gxf_lookup` meets its contract: the text that the checker prints, with the answers to its needs.
 use borrow.Author.Needs.{needs}
 use Rattle.count_stream.proofs.gxf_lookup.Statement.{statement}
 use Rattle.count_stream.proofs.gxf_lookup.Tie as tie

@@ -1,3 +1,4 @@
+-- `listing::list` meets its contract: the text that the checker prints, with the answers to its needs.
 use Rattle.listing.proofs.list.Statement.{statement}
 use Rattle.listing.proofs.list.Tie as tie
 use borrow.Author.Needs.{needs}

@@ -1,3 +1,4 @@
+-- `locator::position` meets its contract: the text that the checker prints, with the answers to its needs.
 use borrow.Author.Needs.{needs}
 use Rattle.locator.proofs.position.Statement.{statement}
 use Rattle.locator.proofs.position.Tie as tie

@@ -1,3 +1,4 @@
+-- `locator::position_in` meets its contract: the text that the checker prints, with the answers to its needs.
 use borrow.Author.Needs.{needs}
 use Rattle.locator.proofs.position_in.Statement.{statement}
 use Rattle.locator.proofs.position_in.Tie as tie

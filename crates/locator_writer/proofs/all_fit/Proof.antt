@@ -1,3 +1,4 @@
+-- `locator_writer::all_fit` meets its contract: the text that the checker prints, with the answers to its needs.
 use Rattle.locator_writer.proofs.all_fit.Statement.{statement}
 use Rattle.locator_writer.proofs.all_fit.Tie as tie
 use borrow.Author.Needs.{needs}

@@ -1,3 +1,4 @@
+-- `locator_writer::put_entries` meets its contract: the text that the checker prints, with the answers to its needs.
 use Rattle.locator_writer.proofs.put_entries.Statement.{statement}
 use Rattle.locator_writer.proofs.put_entries.Tie as tie
 use borrow.Author.Needs.{needs}

@@ -1,3 +1,4 @@
+-- `locator_writer::put_packet` meets its contract: the text that the checker prints, with the answers to its needs.
 use borrow.Author.Needs.{needs}
 use Rattle.locator_writer.proofs.put_packet.Statement.{statement}
 use Rattle.locator_writer.proofs.put_packet.Tie as tie

@@ -1,3 +1,4 @@
+-- `map::after_material` meets its contract: the text that the checker prints, with the answers to its needs.
 use borrow.Author.Needs.{needs}
 use Rattle.map.proofs.after_material.Statement.{statement}
 use Rattle.map.proofs.after_material.Tie as tie

@@ -1,3 +1,4 @@
+-- `map::judge_both` meets its contract: the text that the checker prints, with the answers to its needs.
 use borrow.Author.Needs.{needs}
 use Rattle.map.proofs.judge_both.Statement.{statement}
 use Rattle.map.proofs.judge_both.Tie as tie

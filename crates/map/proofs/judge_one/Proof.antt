@@ -1,3 +1,4 @@
+-- `map::judge_one` meets its contract: the text that the checker prints, with the answers to its needs.
 use borrow.Author.Needs.{needs}
 use Rattle.map.proofs.judge_one.Statement.{statement}
 use Rattle.map.proofs.judge_one.Tie as tie

@@ -1,3 +1,4 @@
+-- `map::read` meets its contract: the text that the checker prints, with the answers to its needs.
 use borrow.Author.Needs.{needs}
 use Rattle.map.proofs.read.Statement.{statement}
 use Rattle.map.proofs.read.Tie as tie

@@ -1,3 +1,4 @@
+-- `map::track_part` meets its contract: the text that the checker prints, with the answers to its needs.
 use borrow.Author.Needs.{needs}
 use Rattle.map.proofs.track_part.Statement.{statement}
 use Rattle.map.proofs.track_part.Tie as tie

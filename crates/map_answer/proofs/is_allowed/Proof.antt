@@ -1,3 +1,4 @@
+-- `map_answer::is_allowed` meets its contract: the text that the checker prints, with the answers to its needs.
 use borrow.Author.Needs.{needs}
 use Rattle.map_answer.proofs.is_allowed.Statement.{statement}
 use Rattle.map_answer.proofs.is_allowed.Tie as tie

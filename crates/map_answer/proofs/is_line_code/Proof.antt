@@ -1,3 +1,4 @@
+-- `map_answer::is_line_code` meets its contract: the text that the checker prints, with the answers to its needs.
 use Rattle.map_answer.proofs.is_line_code.Statement.{statement}
 use Rattle.map_answer.proofs.is_line_code.Tie as tie
 use Rattle.plate.proofs.Tests.{tests}

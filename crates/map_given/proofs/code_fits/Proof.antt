@@ -1,3 +1,4 @@
+-- `map_given::code_fits` meets its contract: the text that the checker prints, with the answers to its needs.
 use borrow.Author.Needs.{needs}
 use Rattle.map_given.proofs.code_fits.Statement.{statement}
 use Rattle.map_given.proofs.code_fits.Tie as tie

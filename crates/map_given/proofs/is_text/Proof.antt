@@ -1,3 +1,4 @@
+-- `map_given::is_text` meets its contract: the text that the checker prints, with the answers to its needs.
 use Rattle.map_given.proofs.is_text.Statement.{statement}
 use Rattle.map_given.proofs.is_text.Tie as tie
 use borrow.Author.Tests.{eq-eqb, ne-eqb}

@@ -1,3 +1,4 @@
+-- `map_given::lies_inside` meets its contract: the text that the checker prints, with the answers to its needs.
 use Rattle.map_given.proofs.lies_inside.Statement.{statement}
 use Rattle.map_given.proofs.lies_inside.Tie as tie
 use native.Mathlib.Omega.{arith}

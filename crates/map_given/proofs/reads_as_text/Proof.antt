@@ -1,3 +1,4 @@
+-- `map_given::reads_as_text` meets its contract: the text that the checker prints, with the answers to its needs.
 use Rattle.map_given.proofs.reads_as_text.Statement.{statement}
 use Rattle.map_given.proofs.reads_as_text.Tie as tie
 use borrow.Author.Needs.{needs}

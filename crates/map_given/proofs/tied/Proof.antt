@@ -1,3 +1,4 @@
+-- `map_given::tied` meets its contract: the text that the checker prints, with the answers to its needs.
 use Rattle.map_given.proofs.tied.Statement.{statement}
 use Rattle.map_given.proofs.tied.Tie as tie
 use mathlib.Core.Path.{refl}

@@ -1,3 +1,4 @@
+-- `map_given::with_id` meets its contract: the text that the checker prints, with the answers to its needs.
 use borrow.Author.Needs.{needs}
 use Rattle.map_given.proofs.with_id.Statement.{statement}
 use Rattle.map_given.proofs.with_id.Tie as tie

@@ -1,3 +1,4 @@
+-- `map_items::asked_of` meets its contract: the text that the checker prints, with the answers to its needs.
 use borrow.Author.Needs.{needs}
 use Rattle.map_items.proofs.asked_of.Statement.{statement}
 use Rattle.map_items.proofs.asked_of.Tie as tie

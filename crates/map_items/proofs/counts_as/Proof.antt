@@ -1,3 +1,4 @@
+-- `map_items::counts_as` meets its contract: the text that the checker prints, with the answers to its needs.
 use Rattle.map_items.proofs.counts_as.Statement.{statement}
 use Rattle.map_items.proofs.counts_as.Tie as tie
 use Rattle.plate.proofs.Tests.{tests}

@@ -1,3 +1,4 @@
+-- `map_items::fault` meets its contract: the text that the checker prints, with the answers to its needs.
 use borrow.Author.Needs.{needs}
 use Rattle.map_items.proofs.fault.Statement.{statement}
 use Rattle.map_items.proofs.fault.Tie as tie

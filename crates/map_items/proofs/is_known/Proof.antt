@@ -1,3 +1,4 @@
+-- `map_items::is_known` meets its contract: the text that the checker prints, with the answers to its needs.
 use borrow.Author.Needs.{needs}
 use Rattle.map_items.proofs.is_known.Statement.{statement}
 use Rattle.map_items.proofs.is_known.Tie as tie

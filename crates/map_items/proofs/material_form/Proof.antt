@@ -1,3 +1,4 @@
+-- `map_items::material_form` meets its contract: the text that the checker prints, with the answers to its needs.
 use Rattle.map_items.proofs.material_form.Statement.{statement}
 use Rattle.map_items.proofs.material_form.Tie as tie
 use Rattle.plate.proofs.Tests.{tests}

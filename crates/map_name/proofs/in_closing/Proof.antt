@@ -1,3 +1,4 @@
+-- `map_name::in_closing` meets its contract: the text that the checker prints, with the answers to its needs.
 use borrow.Author.Needs.{needs}
 use Rattle.map_name.proofs.in_closing.Statement.{statement}
 use Rattle.map_name.proofs.in_closing.Tie as tie

@@ -1,3 +1,4 @@
+-- `map_name::name_place_of_two` meets its contract: the text that the checker prints, with the answers to its needs.
 use borrow.Author.Needs.{needs}
 use Rattle.map_name.proofs.name_place_of_two.Statement.{statement}
 use Rattle.map_name.proofs.name_place_of_two.Tie as tie

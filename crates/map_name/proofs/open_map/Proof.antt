@@ -1,3 +1,4 @@
+-- `map_name::open_map` meets its contract: the text that the checker prints, with the answers to its needs.
 use borrow.Author.Needs.{needs}
 use Rattle.map_name.proofs.open_map.Statement.{statement}
 use Rattle.map_name.proofs.open_map.Tie as tie

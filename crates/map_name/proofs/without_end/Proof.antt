@@ -1,3 +1,4 @@
+-- `map_name::without_end` meets its contract: the text that the checker prints, with the answers to its needs.
 use borrow.Author.Needs.{needs}
 use Rattle.map_name.proofs.without_end.Statement.{statement}
 use Rattle.map_name.proofs.without_end.Tie as tie

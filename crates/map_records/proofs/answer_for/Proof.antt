@@ -1,3 +1,4 @@
+-- `map_records::answer_for` meets its contract: the text that the checker prints, with the answers to its needs.
 use borrow.Author.Needs.{needs}
 use Rattle.map_records.proofs.answer_for.Statement.{statement}
 use Rattle.map_records.proofs.answer_for.Tie as tie

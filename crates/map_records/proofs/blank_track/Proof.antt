@@ -1,3 +1,4 @@
+-- `map_records::blank_track` meets its contract: the text that the checker prints, with the answers to its needs.
 use Rattle.map_records.proofs.blank_track.Statement.{statement}
 use Rattle.map_records.proofs.blank_track.Tie as tie
 use mathlib.Core.Path.{refl}

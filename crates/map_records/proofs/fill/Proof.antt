@@ -291,7 +291,7 @@ module _ {M : Type 1} (𝓤 : URA M) (H : Heap 𝓤) (A : Atoms 𝓤) (W : Given
       peeks ! S.the-row (Is S.the-row) (shows 𝓤 H A S.the-row) r (u ∷ []) (λ is-answer.
       -- [the answer; s's token and true; the token; s; the records; _11; …]
       land ! (from ! (stop !)) (init ! 17 refl (EL.lawful S.the-type S′.the-laws 𝓤 H A W tt .typed r _ is-answer .0)) $
-      -- how many are to be recordsToWrite
+      -- how many are to be written
       nothing ! $ move ! (1 ∷ 0 ∷ []) $ fjoin ! $ nothing ! $ use2 W (raw (ToWrite 𝓤 H A mem run .pre (to-count r u))) (asked-count r u) $
       calls-at {C = 𝓣 .C} ! (fmOf 𝓤 H (W .laws) 𝓣) (ToWrite 𝓤 H A mem run) known-count (to-count r u) (and-then ! (load ! (from ! (stop !)) (look ! 17 refl)) (no-more !)) (λ w.
       use1 W (later (some (λ (m : ℕ). (‵ ftrue ⊛ ‵ (usize .own m (w ∷ []))) ⊛ raw (ensured 𝓤 H A count.ended (count.clauses 𝓤 H A mem run) tt (r, tt) tt m)))) (id⊢ 𝓤 _) $ await ! tt $ pick ! (λ m.

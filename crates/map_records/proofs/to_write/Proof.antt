@@ -1,3 +1,4 @@
+-- `map_records::to_write` meets its contract: the text that the checker prints, with the answers to its needs.
 use borrow.Author.Needs.{needs}
 use Rattle.map_records.proofs.to_write.Statement.{statement}
 use Rattle.map_records.proofs.to_write.Tie as tie

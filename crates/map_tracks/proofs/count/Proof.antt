@@ -1,3 +1,4 @@
+-- `map_tracks::count` meets its contract: the text that the checker prints, with the answers to its needs.
 use Rattle.map_tracks.proofs.count.Statement.{statement}
 use Rattle.map_tracks.proofs.count.Tie as tie
 use borrow.Author.Needs.{needs}

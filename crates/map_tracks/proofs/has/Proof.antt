@@ -1,3 +1,4 @@
+-- `map_tracks::has` meets its contract: the text that the checker prints, with the answers to its needs.
 use borrow.Author.Needs.{needs}
 use Rattle.map_tracks.proofs.has.Statement.{statement}
 use Rattle.map_tracks.proofs.has.Tie as tie

@@ -1,3 +1,4 @@
+-- `map_tracks::is_listed` meets its contract: the text that the checker prints, with the answers to its needs.
 use borrow.Author.Needs.{needs}
 use Rattle.map_tracks.proofs.is_listed.Statement.{statement}
 use Rattle.map_tracks.proofs.is_listed.Tie as tie

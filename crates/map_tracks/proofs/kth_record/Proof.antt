@@ -1,3 +1,4 @@
+-- `map_tracks::kth_record` meets its contract: the text that the checker prints, with the answers to its needs.
 use borrow.Author.Needs.{needs}
 use Rattle.map_tracks.proofs.kth_record.Statement.{statement}
 use Rattle.map_tracks.proofs.kth_record.Tie as tie

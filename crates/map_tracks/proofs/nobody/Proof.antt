@@ -1,3 +1,4 @@
+-- `map_tracks::nobody` meets its contract: the text that the checker prints, with the answers to its needs.
 use Rattle.map_tracks.proofs.nobody.Statement.{statement}
 use Rattle.map_tracks.proofs.nobody.Tie as tie
 use native.Mathlib.Omega.{arith}

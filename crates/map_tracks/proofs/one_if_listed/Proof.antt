@@ -1,3 +1,4 @@
+-- `map_tracks::one_if_listed` meets its contract: the text that the checker prints, with the answers to its needs.
 use borrow.Author.Needs.{needs}
 use Rattle.map_tracks.proofs.one_if_listed.Statement.{statement}
 use Rattle.map_tracks.proofs.one_if_listed.Tie as tie

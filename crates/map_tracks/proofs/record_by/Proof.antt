@@ -1,3 +1,4 @@
+-- `map_tracks::record_by` meets its contract: the text that the checker prints, with the answers to its needs.
 use Rattle.map_tracks.proofs.record_by.Statement.{statement}
 use Rattle.map_tracks.proofs.record_by.Tie as tie
 use borrow.Author.Needs.{needs}

@@ -1,3 +1,4 @@
+-- `map_tracks::record_of_id` meets its contract: the text that the checker prints, with the answers to its needs.
 use borrow.Author.Needs.{needs}
 use Rattle.map_tracks.proofs.record_of_id.Statement.{statement}
 use Rattle.map_tracks.proofs.record_of_id.Tie as tie

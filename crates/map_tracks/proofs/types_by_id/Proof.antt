@@ -1,3 +1,4 @@
+-- `map_tracks::types_by_id` meets its contract: the text that the checker prints, with the answers to its needs.
 use Rattle.map_tracks.proofs.types_by_id.Statement.{statement}
 use Rattle.map_tracks.proofs.types_by_id.Tie as tie
 use borrow.Author.Needs.{needs}

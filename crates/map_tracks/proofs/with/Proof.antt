@@ -1,3 +1,4 @@
+-- `map_tracks::with` meets its contract: the text that the checker prints, with the answers to its needs.
 use borrow.Author.Needs.{needs}
 use Rattle.map_tracks.proofs.with.Statement.{statement}
 use Rattle.map_tracks.proofs.with.Tie as tie

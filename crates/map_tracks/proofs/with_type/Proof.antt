@@ -1,3 +1,4 @@
+-- `map_tracks::with_type` meets its contract: the text that the checker prints, with the answers to its needs.
 use borrow.Author.Needs.{needs}
 use Rattle.map_tracks.proofs.with_type.Statement.{statement}
 use Rattle.map_tracks.proofs.with_type.Tie as tie

@@ -1,3 +1,4 @@
+-- `map_writer::copy` meets its contract: the text that the checker prints, with the answers to its needs.
 use Rattle.map_writer.proofs.copy.Statement.{statement}
 use Rattle.map_writer.proofs.copy.Tie as tie
 use borrow.Author.Needs.{needs}

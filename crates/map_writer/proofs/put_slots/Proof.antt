@@ -1,3 +1,4 @@
+-- `map_writer::put_slots` meets its contract: the text that the checker prints, with the answers to its needs.
 use Rattle.map_writer.proofs.put_slots.Statement.{statement}
 use Rattle.map_writer.proofs.put_slots.Tie as tie
 use borrow.Author.Needs.{needs}

@@ -1,3 +1,4 @@
+-- `map_writer::put_tracks` meets its contract: the text that the checker prints, with the answers to its needs.
 use Rattle.map_writer.proofs.put_tracks.Statement.{statement}
 use Rattle.map_writer.proofs.put_tracks.Tie as tie
 use borrow.Author.Needs.{needs}

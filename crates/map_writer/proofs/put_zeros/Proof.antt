@@ -1,3 +1,4 @@
+-- `map_writer::put_zeros` meets its contract: the text that the checker prints, with the answers to its needs.
 use Rattle.map_writer.proofs.put_zeros.Statement.{statement}
 use Rattle.map_writer.proofs.put_zeros.Tie as tie
 use borrow.Author.Needs.{needs}

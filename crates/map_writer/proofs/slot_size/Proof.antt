@@ -1,3 +1,4 @@
+-- `map_writer::slot_size` meets its contract: the text that the checker prints, with the answers to its needs.
 use borrow.Author.Needs.{needs}
 use Rattle.map_writer.proofs.slot_size.Statement.{statement}
 use Rattle.map_writer.proofs.slot_size.Tie as tie

@@ -1,3 +1,4 @@
+-- `media::preamble` meets its contract: the text that the checker prints, with the answers to its needs.
 use borrow.Author.Needs.{needs}
 use Rattle.media.proofs.preamble.Statement.{statement}
 use Rattle.media.proofs.preamble.Tie as tie

@@ -1,3 +1,4 @@
+-- `media::read` meets its contract: the text that the checker prints, with the answers to its needs.
 use borrow.Author.Needs.{needs}
 use Rattle.media.proofs.read.Statement.{statement}
 use Rattle.media.proofs.read.Tie as tie

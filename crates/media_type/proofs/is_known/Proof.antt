@@ -1,3 +1,4 @@
+-- `media_type::is_known` meets its contract: the text that the checker prints, with the answers to its needs.
 use Rattle.media_type.proofs.is_known.Statement.{statement}
 use Rattle.media_type.proofs.is_known.Tie as tie
 use mathlib.Core.Path.{_≡_, refl}

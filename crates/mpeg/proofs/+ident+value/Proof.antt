@@ -1,3 +1,4 @@
+-- `mpeg::ident` and `mpeg::value` meet their contracts: the text that the checker prints, with the answers to its needs.
 use Prim.Native.Nat.{ℕ, _<_}
 use borrow.Fn.Kinds.{In}
 use borrow.Fn.PlainCycle.{Measures, is, falls, and}

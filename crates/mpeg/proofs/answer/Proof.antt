@@ -1,3 +1,4 @@
+-- `mpeg::answer` meets its contract: the text that the checker prints, with the answers to its needs.
 use borrow.Author.Needs.{needs}
 use Rattle.mpeg.proofs.answer.Statement.{statement}
 use Rattle.mpeg.proofs.answer.Tie as tie

@@ -1,3 +1,4 @@
+-- `mpeg::is_space` meets its contract: the text that the checker prints, with the answers to its needs.
 use borrow.Author.Needs.{needs}
 use Rattle.mpeg.proofs.is_space.Statement.{statement}
 use Rattle.mpeg.proofs.is_space.Tie as tie

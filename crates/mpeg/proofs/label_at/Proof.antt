@@ -1,3 +1,4 @@
+-- `mpeg::label_at` meets its contract: the text that the checker prints, with the answers to its needs.
 use borrow.Author.Needs.{needs}
 use Rattle.mpeg.proofs.label_at.Statement.{statement}
 use Rattle.mpeg.proofs.label_at.Tie as tie

@@ -1,3 +1,4 @@
+-- `mpeg::row_of` meets its contract: the text that the checker prints, with the answers to its needs.
 use borrow.Author.Needs.{needs}
 use Rattle.mpeg.proofs.row_of.Statement.{statement}
 use Rattle.mpeg.proofs.row_of.Tie as tie

@@ -1,3 +1,4 @@
+-- `mpeg::skip` meets its contract: the text that the checker prints, with the answers to its needs.
 use Rattle.mpeg.proofs.skip.Statement.{statement}
 use Rattle.mpeg.proofs.skip.Tie as tie
 use borrow.Author.Needs.{needs}

@@ -1,3 +1,4 @@
+-- `mpeg::take_line` meets its contract: the text that the checker prints, with the answers to its needs.
 use borrow.Author.Needs.{needs}
 use Rattle.mpeg.proofs.take_line.Statement.{statement}
 use Rattle.mpeg.proofs.take_line.Tie as tie

@@ -1,3 +1,4 @@
+-- `mpeg_decimal::numeral` meets its contract: the text that the checker prints, with the answers to its needs.
 use Rattle.mpeg_decimal.proofs.numeral.Statement.{statement}
 use Rattle.mpeg_decimal.proofs.numeral.Tie as tie
 use borrow.Author.Needs.{needs}

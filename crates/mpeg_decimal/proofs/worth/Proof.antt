@@ -1,3 +1,4 @@
+-- `mpeg_decimal::worth` meets its contract: the text that the checker prints, with the answers to its needs.
 use borrow.Author.Needs.{needs}
 use Rattle.mpeg_decimal.proofs.worth.Statement.{statement}
 use Rattle.mpeg_decimal.proofs.worth.Tie as tie

@@ -1,3 +1,4 @@
+-- `mpeg_parameter::is_lacking` meets its contract: the text that the checker prints, with the answers to its needs.
 use Rattle.mpeg_parameter.proofs.is_lacking.Statement.{statement}
 use Rattle.mpeg_parameter.proofs.is_lacking.Tie as tie
 use borrow.Author.Needs.{needs}

@@ -1,3 +1,4 @@
+-- `mpeg_parameter::is_wanting` meets its contract: the text that the checker prints, with the answers to its needs.
 use borrow.Author.Needs.{needs}
 use Rattle.mpeg_parameter.proofs.is_wanting.Statement.{statement}
 use Rattle.mpeg_parameter.proofs.is_wanting.Tie as tie

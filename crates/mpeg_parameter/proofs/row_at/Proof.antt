@@ -1,3 +1,4 @@
+-- `mpeg_parameter::row_at` meets its contract: the text that the checker prints, with the answers to its needs.
 use borrow.Author.Needs.{needs}
 use Rattle.mpeg_parameter.proofs.row_at.Statement.{statement}
 use Rattle.mpeg_parameter.proofs.row_at.Tie as tie

@@ -1,3 +1,4 @@
+-- `mpeg_parameter::row_for` meets its contract: the text that the checker prints, with the answers to its needs.
 use Rattle.mpeg_parameter.proofs.row_for.Statement.{statement}
 use Rattle.mpeg_parameter.proofs.row_for.Tie as tie
 use borrow.Author.Needs.{needs}

@@ -1,3 +1,4 @@
+-- `mpeg_scan::alnum_end` meets its contract: the text that the checker prints, with the answers to its needs.
 use Rattle.mpeg_scan.proofs.alnum_end.Statement.{statement}
 use Rattle.mpeg_scan.proofs.alnum_end.Tie as tie
 use borrow.Author.Needs.{needs}

@@ -1,3 +1,4 @@
+-- `mpeg_scan::is_alnum` meets its contract: the text that the checker prints, with the answers to its needs.
 use Rattle.mpeg_scan.proofs.is_alnum.Statement.{statement}
 use Rattle.mpeg_scan.proofs.is_alnum.Tie as tie
 use native.Mathlib.Omega.{arith}

@@ -1,3 +1,4 @@
+-- `mpeg_scan::until` meets its contract: the text that the checker prints, with the answers to its needs.
 use Rattle.mpeg_scan.proofs.until.Statement.{statement}
 use Rattle.mpeg_scan.proofs.until.Tie as tie
 use borrow.Author.Needs.{needs}

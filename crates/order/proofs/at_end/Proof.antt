@@ -1,3 +1,4 @@
+-- `order::at_end` meets its contract: the text that the checker prints, with the answers to its needs.
 use borrow.Author.Needs.{needs}
 use Rattle.order.proofs.at_end.Statement.{statement}
 use Rattle.order.proofs.at_end.Tie as tie

@@ -1,3 +1,4 @@
+-- `order::falls_due` meets its contract: the text that the checker prints, with the answers to its needs.
 use Rattle.order.proofs.falls_due.Statement.{statement}
 use Rattle.order.proofs.falls_due.Tie as tie
 use borrow.Author.Tests.{eq-eqb, ne-eqb}

@@ -1,3 +1,4 @@
+-- `order::is_misplaced` meets its contract: the text that the checker prints, with the answers to its needs.
 use Rattle.order.proofs.is_misplaced.Statement.{statement}
 use Rattle.order.proofs.is_misplaced.Tie as tie
 use Rattle.order.specs.Order.{misplaced}

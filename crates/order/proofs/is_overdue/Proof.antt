@@ -1,3 +1,4 @@
+-- `order::is_overdue` meets its contract: the text that the checker prints, with the answers to its needs.
 use Rattle.order.proofs.is_overdue.Statement.{statement}
 use Rattle.order.proofs.is_overdue.Tie as tie
 use borrow.Author.Tests.{eq-eqb, ne-eqb}

@@ -1,3 +1,4 @@
+-- `order::is_unmapped` meets its contract: the text that the checker prints, with the answers to its needs.
 use borrow.Author.Needs.{needs}
 use Rattle.order.proofs.is_unmapped.Statement.{statement}
 use Rattle.order.proofs.is_unmapped.Tie as tie

@@ -1,3 +1,4 @@
+-- `order::or_type` meets its contract: the text that the checker prints, with the answers to its needs.
 use Rattle.order.proofs.or_type.Statement.{statement}
 use Rattle.order.proofs.or_type.Tie as tie
 use Rattle.order.specs.Order.{eitherType}

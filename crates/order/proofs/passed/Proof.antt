@@ -1,3 +1,4 @@
+-- `order::passed` meets its contract: the text that the checker prints, with the answers to its needs.
 use borrow.Author.Needs.{needs}
 use Rattle.order.proofs.passed.Statement.{statement}
 use Rattle.order.proofs.passed.Tie as tie

@@ -1,3 +1,4 @@
+-- `order::step_as` meets its contract: the text that the checker prints, with the answers to its needs.
 use borrow.Author.Needs.{needs}
 use Rattle.order.proofs.step_as.Statement.{statement}
 use Rattle.order.proofs.step_as.Tie as tie

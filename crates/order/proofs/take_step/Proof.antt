@@ -1,3 +1,4 @@
+-- `order::take_step` meets its contract: the text that the checker prints, with the answers to its needs.
 use borrow.Author.Needs.{needs}
 use Rattle.order.proofs.take_step.Statement.{statement}
 use Rattle.order.proofs.take_step.Tie as tie

@@ -1,3 +1,4 @@
+-- `packet_writer::lacks_room` meets its contract: the text that the checker prints, with the answers to its needs.
 use borrow.Author.Needs.{needs}
 use Rattle.packet_writer.proofs.lacks_room.Statement.{statement}
 use Rattle.packet_writer.proofs.lacks_room.Tie as tie

@@ -1,3 +1,4 @@
+-- `packet_writer::put_header` meets its contract: the text that the checker prints, with the answers to its needs.
 use borrow.Author.Needs.{needs}
 use Rattle.packet_writer.proofs.put_header.Statement.{statement}
 use Rattle.packet_writer.proofs.put_header.Tie as tie

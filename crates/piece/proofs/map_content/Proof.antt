@@ -1,3 +1,4 @@
+-- `piece::map_content` meets its contract: the text that the checker prints, with the answers to its needs.
 use borrow.Author.Needs.{needs}
 use Rattle.piece.proofs.map_content.Statement.{statement}
 use Rattle.piece.proofs.map_content.Tie as tie

@@ -1,3 +1,4 @@
+-- `piece::may_open` meets its contract: the text that the checker prints, with the answers to its needs.
 use Rattle.piece.proofs.may_open.Statement.{statement}
 use Rattle.piece.proofs.may_open.Tie as tie
 use Rattle.piece.specs.Piece.{opens}

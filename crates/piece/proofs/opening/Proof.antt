@@ -1,3 +1,4 @@
+-- `piece::opening` meets its contract: the text that the checker prints, with the answers to its needs.
 use borrow.Author.Needs.{needs}
 use Rattle.piece.proofs.opening.Statement.{statement}
 use Rattle.piece.proofs.opening.Tie as tie

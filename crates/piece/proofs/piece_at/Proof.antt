@@ -1,3 +1,4 @@
+-- `piece::piece_at` meets its contract: the text that the checker prints, with the answers to its needs.
 use borrow.Author.Needs.{needs}
 use Rattle.piece.proofs.piece_at.Statement.{statement}
 use Rattle.piece.proofs.piece_at.Tie as tie

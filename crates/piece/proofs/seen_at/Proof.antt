@@ -1,3 +1,4 @@
+-- `piece::seen_at` meets its contract: the text that the checker prints, with the answers to its needs.
 use borrow.Author.Needs.{needs}
 use Rattle.piece.proofs.seen_at.Statement.{statement}
 use Rattle.piece.proofs.seen_at.Tie as tie

@@ -1,3 +1,4 @@
+-- `probe::main` meets its contract: the text that the checker prints, with the answers to its needs.
 use Rattle.probe.proofs.main.Statement.{statement}
 use Rattle.probe.proofs.main.Tie as tie
 use borrow.Author.Needs.{needs}

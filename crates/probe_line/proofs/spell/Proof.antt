@@ -1,3 +1,4 @@
+-- `probe_line::spell` meets its contract: the text that the checker prints, with the answers to its needs.
 use Rattle.probe_line.proofs.spell.Statement.{statement}
 use Rattle.probe_line.proofs.spell.Tie as tie
 use borrow.Author.Needs.{needs}

@@ -1,3 +1,4 @@
+-- `probe_map::records` meets its contract: the text that the checker prints, with the answers to its needs.
 use Rattle.probe_map.proofs.records.Statement.{statement}
 use Rattle.probe_map.proofs.records.Tie as tie
 use borrow.Author.Needs.{needs}

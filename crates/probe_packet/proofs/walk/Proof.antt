@@ -1,3 +1,4 @@
+-- `probe_packet::walk` meets its contract: the text that the checker prints, with the answers to its needs.
 use Rattle.probe_packet.proofs.walk.Statement.{statement}
 use Rattle.probe_packet.proofs.walk.Tie as tie
 use borrow.Author.Needs.{needs}

@@ -1,3 +1,4 @@
+-- `probe_records::fill` meets its contract: the text that the checker prints, with the answers to its needs.
 use borrow.Author.Needs.{needs}
 use Rattle.probe_records.proofs.fill.Statement.{statement}
 use Rattle.probe_records.proofs.fill.Tie as tie

@@ -166,7 +166,7 @@ module _ {M : Type 1} (𝓤 : URA M) (H : Heap 𝓤) (A : Atoms 𝓤) (W : Given
       -- [the slice; the lender's part; the token; the other records]
       at-once ! $ show ! (λ (α′ : ℕ). ex 𝓤 (λ (γ′ : GName). Loan l α′ γ′)) α $ show ! (λ (γ′ : GName). Loan l α γ′) γ $ move ! (2 ∷ 0 ∷ 1 ∷ 3 ∷ []) $ done !))
 
-  -- afterwards the call: the lifetime is ended, and the array lies in the local again, with the records zs in place of the first n
+  -- after the call: the lifetime is ended, and the array lies in the local again, with the records zs in place of the first n
   comes-back : (l α : ℕ) (γ : GName) (zs : List Track) → length zs ≡ length first-n
       → ent 𝓤 (⋆ 𝓤 H A (‵ (flft (α ∷ []) fullShare) ∷ ‵ (Kept l α γ) ∷ ‵ (finally R γ zs) ∷ ‵ (Others l) ∷ [])) (H .⇛ (sep 𝓤 (sem 𝓤 H A (Cell l (zs ++ others))) (sem 𝓤 H A (Own (zs ++ others)))))
   unfolding partOf

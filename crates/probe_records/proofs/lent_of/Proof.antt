@@ -1,3 +1,4 @@
+-- `probe_records::lent_of` meets its contract: the text that the checker prints, with the answers to its needs.
 use Rattle.probe_records.proofs.lent_of.Statement.{statement}
 use Rattle.probe_records.proofs.lent_of.Tie as tie
 use Rattle.plate.proofs.Tests.{tests}

@@ -1,3 +1,4 @@
+-- `probe_room::prefill` meets its contract: the text that the checker prints, with the answers to its needs.
 use Rattle.probe_room.proofs.prefill.Statement.{statement}
 use Rattle.probe_room.proofs.prefill.Tie as tie
 use borrow.Author.Needs.{needs}

@@ -1,3 +1,4 @@
+-- `probe_room::words` meets its contract: the text that the checker prints, with the answers to its needs.
 use Rattle.probe_room.proofs.words.Statement.{statement}
 use Rattle.probe_room.proofs.words.Tie as tie
 use borrow.Author.Needs.{needs}

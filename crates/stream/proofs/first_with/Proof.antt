@@ -1,3 +1,4 @@
+-- `stream::first_with` meets its contract: the text that the checker prints, with the answers to its needs.
 use borrow.Author.Needs.{needs}
 use Rattle.stream.proofs.first_with.Statement.{statement}
 use Rattle.stream.proofs.first_with.Tie as tie

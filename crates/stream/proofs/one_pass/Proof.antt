@@ -1,3 +1,4 @@
+-- `stream::one_pass` meets its contract: the text that the checker prints, with the answers to its needs.
 use Rattle.stream.proofs.one_pass.Statement.{statement}
 use Rattle.stream.proofs.one_pass.Tie as tie
 use borrow.Author.Needs.{needs}

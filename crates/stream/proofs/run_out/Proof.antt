@@ -1,3 +1,4 @@
+-- `stream::run_out` meets its contract: the text that the checker prints, with the answers to its needs.
 use borrow.Author.Needs.{needs}
 use Rattle.stream.proofs.run_out.Statement.{statement}
 use Rattle.stream.proofs.run_out.Tie as tie

@@ -1,3 +1,4 @@
+-- `stream::seek` meets its contract: the text that the checker prints, with the answers to its needs.
 use borrow.Author.Needs.{needs}
 use Rattle.stream.proofs.seek.Statement.{statement}
 use Rattle.stream.proofs.seek.Tie as tie

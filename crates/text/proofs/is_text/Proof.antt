@@ -1,3 +1,4 @@
+-- `text::is_text` meets its contract: the text that the checker prints, with the answers to its needs.
 use Rattle.text.proofs.is_text.Statement.{statement}
 use Rattle.text.proofs.is_text.Tie as tie
 use borrow.Author.Needs.{needs}

@@ -1,3 +1,4 @@
+-- `twins::same_bytes` meets its contract: the text that the checker prints, with the answers to its needs.
 use Rattle.twins.proofs.same_bytes.Statement.{statement}
 use Rattle.twins.proofs.same_bytes.Tie as tie
 use Rattle.twins.proofs.same_bytes.Reads as reads

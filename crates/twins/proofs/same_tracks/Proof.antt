@@ -1,3 +1,4 @@
+-- `twins::same_tracks` meets its contract: the text that the checker prints, with the answers to its needs.
 use Rattle.twins.proofs.same_tracks.Statement.{statement}
 use Rattle.twins.proofs.same_tracks.Tie as tie
 use Rattle.twins.proofs.same_tracks.Reads as reads

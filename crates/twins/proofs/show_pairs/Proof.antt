@@ -1,3 +1,4 @@
+-- `twins::show_pairs` meets its contract: the text that the checker prints, with the answers to its needs.
 use Rattle.twins.proofs.show_pairs.Statement.{statement}
 use Rattle.twins.proofs.show_pairs.Tie as tie
 use Rattle.twins.proofs.show_pairs.Reads as reads

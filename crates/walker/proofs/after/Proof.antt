@@ -1,3 +1,4 @@
+-- `walker::after` meets its contract: the text that the checker prints, with the answers to its needs.
 use borrow.Author.Needs.{needs}
 use Rattle.walker.proofs.after.Statement.{statement}
 use Rattle.walker.proofs.after.Tie as tie

@@ -1,3 +1,4 @@
+-- `walker::turns` meets its contract: the text that the checker prints, with the answers to its needs.
 use borrow.Author.Needs.{needs}
 use Rattle.walker.proofs.turns.Statement.{statement}
 use Rattle.walker.proofs.turns.Tie as tie

@@ -1,3 +1,4 @@
+-- `walker::walk` meets its contract: the text that the checker prints, with the answers to its needs.
 use borrow.Author.Needs.{needs}
 use Rattle.walker.proofs.walk.Statement.{statement}
 use Rattle.walker.proofs.walk.Tie as tie

@@ -1,3 +1,4 @@
+-- `writing::set_slot` meets its contract: the text that the checker prints, with the answers to its needs.
 use borrow.Author.Needs.{needs}
 use Rattle.writing.proofs.set_slot.Statement.{statement}
 use Rattle.writing.proofs.set_slot.Tie as tie

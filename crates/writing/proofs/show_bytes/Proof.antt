@@ -1,3 +1,4 @@
+-- `writing::show_bytes` meets its contract: the text that the checker prints, with the answers to its needs.
 use Rattle.writing.proofs.show_bytes.Statement.{statement}
 use Rattle.writing.proofs.show_bytes.Tie as tie
 use borrow.Author.Needs.{needs}
