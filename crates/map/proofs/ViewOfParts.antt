@@ -167,7 +167,7 @@ section-there p post (suc f) (k ∷ i ∷ h ∷ l ∷ s) pre e =
         (opened-there p (length pre) d (pre ++ (k ∷ i ∷ h ∷ l ∷ [])) (drop n s ++ post) (length-append pre (k ∷ i ∷ h ∷ l ∷ [])) (e ∙ headed)) (rw w at ih)
     go false ih = refl
 
--- the bytes between two places, and those before and inFront them
+-- the bytes between two places, and those before and after them
 cut-part : (p : List ℕ) (from to : ℕ) → p ≡ take from p ++ (part from to p ++ drop (to - from) (drop from p))
 cut-part p from to = sym (rw (take-append-drop (to - from) (drop from p)) (take-append-drop from p))
 

@@ -71,7 +71,7 @@ endVerdict p over = Accepted
 endVerdict p short = bad 8 p
 endVerdict p (hangs k i) = onBytes k i p (bad 8 p)
 
--- tracks from place p on, inFront tracks of these IDs: 12, 10 for an ID seen before, listed or not, then the items
+-- tracks from place p on, after tracks of these IDs: 12, 10 for an ID seen before, listed or not, then the items
 unfoldable pub judgeTracks : List ℕ → ℕ → List Description → End → Verdict
 judgeTracks ids p [] e = endVerdict p e
 judgeTracks ids p (d ∷ ds) e =

@@ -53,7 +53,7 @@ other = take 17 text ++ (0x32 ∷ drop 18 text)
 
 -- the preamble of a packet `carrying` a field
 abbrev pub carried : ℕ → MediaAnswer
-carried field = media-answer.Preamble (record { typeByte = 10; track = 1; field = field; info = 0; timeline = 0; flags = 0 })
+carried field = media-answer.Preamble (record { «media_type» = 10; track = 1; field = field; info = 0; timeline = 0; flags = 0 })
 
 abbrev pub parameters : ℕ → MpegAnswer
 parameters ipg =
