@@ -83,11 +83,15 @@ told l s n = go (checkOf s) (ltb (length l) (16 * length (entriesIn s))) refl re
         by false e = record { packets = k; passed = p; many = cc }
 
 -- what stands in the buffer after an answer of n records: the records of the stream, at its start
-book-of : (l s : List ℕ) (n : ℕ) → buildAnswer l s ≡ build.Records n → take (16 * n) (builtIn l s) ≡ bookBytes (entriesIn s)
+pub book-of : (l s : List ℕ) (n : ℕ) → buildAnswer l s ≡ build.Records n → take (16 * n) (builtIn l s) ≡ bookBytes (entriesIn s)
 unfolding builtIn
 book-of l s n e =
     let a : 16 * n ≡ length (bookBytes (entriesIn s)) = omega (arith, length-bytes (entriesIn s), told l s n e .many) in
     rw (e, a) (take-append-seam (bookBytes (entriesIn s)) (drop (length (bookBytes (entriesIn s))) l))
+
+-- a number of records is that of the stream's records
+pub many-of : (l s : List ℕ) (n : ℕ) → buildAnswer l s ≡ build.Records n → n ≡ length (entriesIn s)
+many-of l s n e = told l s n e .many
 
 -- a stream that passes the check is answered by the number of its records, where the buffer has room for them
 pub answered : (l s : List ℕ) (n : ℕ) → checkOf s ≡ check.Packets n → 16 * length (entriesIn s) ≤ length l → buildAnswer l s ≡ build.Records (length (entriesIn s))

@@ -46,6 +46,8 @@ round-trip out at step ns n e =
     rw w
     record {
       long = a .lens;
+      stands = rw (lens) b;
+      header = rw (lens) h;
       table = simp (h, b, table step ns m);
       position = pos;
       entry = λ k g. rw (back k) at (pos (k * step) (rw (back k) g));

@@ -4,7 +4,7 @@ use mathlib.Core.Path.{_≡_, refl, sym, _∙_}
 use mathlib.Core.Bool.{Bool, true, false}
 use mathlib.Core.List.{List, map, append-assoc}
 use native.Mathlib.Omega.{arith}
-use borrow.Author.Tests.{eqb-true, ltb-false}
+use borrow.Author.Tests.{eqb-true, ltb-false, le-ltb}
 use lib.ListN.{length, take, drop}
 use lib.Seq.{length-take-le}
 use lib.Dec.{eqb, ltb}
@@ -62,6 +62,10 @@ module _ (out : List ℕ) (at : ℕ) (text ms ts : List ℕ) (n : ℕ) where
       go true p false false q true r e = absurd (let z : _≡_ {A = ℕ} 0 1 = cc in omega arith)
       go false p b c q d r e = absurd (let z : _≡_ {A = ℕ} 0 1 = cc in omega arith)
 
+  material-fits : Clean text ms ts → materialLength (partsGiven text ms ts) ≤ 65535
+  unfolding partsGiven
+  material-fits c = let a = material-size text ms ts c in let b = material-short text ms ts c in omega arith
+
   -- the packet's parts fit their length words
   fit : Clean text ms ts → tracksLength (partsGiven text ms ts) ≤ 65535 → Fit (partsGiven text ms ts)
   unfolding partsGiven
@@ -69,10 +73,18 @@ module _ (out : List ℕ) (at : ℕ) (text ms ts : List ℕ) (n : ℕ) where
       let ds = map described (map (partsOfTrack text) (tracksGiven ts)) in
       record {
         four = refl;
-        material = let a = material-size text ms ts c in let b = material-short text ms ts c in omega arith;
+        material = let a = material-fits c in omega arith;
         tracks = omega arith;
         each = split.sized ds (omega (arith, split.length-bytes ds));
       }
+
+  -- the other way: an input without fault, whose track section fits its length word, is written wherever there is room for it
+  pub accepted : faultOf text ms ts ≡ 0 → tracksLength (partsGiven text ms ts) ≤ 65535 → at + length (mapPacket text ms ts) ≤ length out → mapAnswer out at text ms ts ≡ Length (length (mapPacket text ms ts))
+  unfolding mapAnswer
+  accepted e t h =
+      let c = clean text ms ts e in
+      let m : materialLength (partsGiven text ms ts) ≤ 65535 = material-fits c in
+      simp (e, le-ltb 65535 (materialLength (partsGiven text ms ts)) m, le-ltb 65535 (tracksLength (partsGiven text ms ts)) t, le-ltb (length out - at) (length (mapPacket text ms ts)) (omega arith))
 
   pub round-trip : mapAnswer out at text ms ts ≡ Length n → ReadBack out at text ms ts n (mapWrittenIn out at text ms ts)
   unfolding mapWrittenIn mapPacket

@@ -37,7 +37,8 @@ use Rattle.mpeg.specs.declared.MpegAnswer.the-variants as mpeg-answer
 use Rattle.mpeg_parameter.specs.declared.ParameterValue.{ParameterValue}
 use Rattle.mpeg_parameter.specs.declared.ParameterValue.the-variants as parameter-value
 use Rattle.map.proofs.Samples.{M}
-use Rattle.paper_readings.proofs.Streams.{S, mute, unlent, B, room, carrying, computed, bytes-needed}
+use Rattle.paper_readings.proofs.Streams.{computed, bytes-needed}
+use Rattle.paper_readings.specs.Streams.{S, mute, unlent, B, room, carrying}
 use Rattle.paper_readings.proofs.Pairs.{located, N, bare, other, pairs}
 use Rattle.mpeg.proofs.Worked.{text}
 use Rattle.book_builder.proofs.build.Kinds as build-kinds
@@ -45,7 +46,7 @@ use Rattle.book_builder.proofs.build.Reads as build-reads
 use Rattle.paper_readings.specs.Calls.{Allows, Checks, Seeks, Looks, Tables, Positions, Preambles, Places, PlacesOfTwo, Names, NamesOfTwo, Parameters}
 
 -- bytes as a slice lends them
-abbrev lent : List ℕ → RefT (List ℕ)
+abbrev pub lent : List ℕ → RefT (List ℕ)
 lent s = record { ptr = (0, 0); name = 0; now = s }
 
 abbrev firstByte : List ℕ → ℕ

@@ -34,7 +34,7 @@ use Rattle.mpeg.specs.declared.MpegAnswer.{MpegAnswer}
 use Rattle.mpeg.specs.declared.MpegAnswer.the-variants as mpeg-answer
 use Rattle.mpeg.proofs.Worked.{text}
 use Rattle.map.proofs.Samples.{headed, M}
-use Rattle.paper_readings.proofs.Streams.{carrying}
+use Rattle.paper_readings.specs.Streams.{carrying}
 
 -- an FLT of a step with one entry, both under 256
 abbrev pub located : ℕ → ℕ → List ℕ

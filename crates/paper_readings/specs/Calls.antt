@@ -148,3 +148,13 @@ abbrev pub WritesLocator : List ℕ → ℕ → ℕ → List ℕ → WriteAnswer
 WritesLocator out at step ns x o =
     Allows 2 locator-write-kinds.ps locator-write-kinds.r locator-write-reads.Post (WriteAnswer × List ℕ)
     (λ κs a. (a .0 .now ≡ out) × (a .1 .0 ≡ at) × (a .1 .1 .0 ≡ step) × (a .1 .1 .1 .0 .now ≡ ns)) (λ κs x t. (x, t .0 .now)) (x, o)
+
+-- a name that is handed out, as the bytes of the part and where it begins in the memory that the lent maps stand in: `map_name::name` and `map_name::name_of_two`
+abbrev pub HandsOut : List ℕ → ℕ × ℕ → ℕ → List ℕ → ℕ × ℕ → Type 0
+HandsOut s at id v q =
+    Allows 1 name-kinds.ps name-kinds.r name-reads.Post (List ℕ × (ℕ × ℕ)) (λ κs a. (a .0 .now ≡ s) × (a .0 .ptr ≡ at) × (a .1 .0 ≡ id)) (λ κs x t. (x .now, x .ptr)) (v, q)
+
+abbrev pub HandsOutOfTwo : List ℕ → ℕ × ℕ → List ℕ → ℕ × ℕ → ℕ → List ℕ → ℕ × ℕ → Type 0
+HandsOutOfTwo m at n there id v q =
+    Allows 1 name-of-two-kinds.ps name-of-two-kinds.r name-of-two-reads.Post (List ℕ × (ℕ × ℕ))
+    (λ κs a. (a .0 .now ≡ m) × (a .0 .ptr ≡ at) × (a .1 .0 .now ≡ n) × (a .1 .0 .ptr ≡ there) × (a .1 .1 .0 ≡ id)) (λ κs x t. (x .now, x .ptr)) (v, q)

@@ -1,6 +1,7 @@
 -- One outcome, and what a refused call leaves, from what any outcome of a call is.
 use mathlib.Core.Path.{_≡_, sym, _∙_}
 use Rattle.walker.proofs.Once.{step-once}
+use Rattle.walker.proofs.Laws.{step-refused}
 use Rattle.map_records.proofs.Once.{fill-once}
 use Rattle.map_records.proofs.Kept as records
 use Rattle.book_builder.proofs.Same as book
@@ -41,6 +42,7 @@ every-input =
           let e = map-written-is out at text ms ts x o g in let f = map-written-is out at text ms ts y p h in (both (e .0) (f .0), both (e .1) (f .1));
       write-locator = λ out at step ns x y o p g h.
           let e = locator-written-is out at step ns x o g in let f = locator-written-is out at step ns y p h in (both (e .0) (f .0), both (e .1) (f .1));
+      step-refused = step-refused;
       fill-refused = λ ys s at r zs f. records.refused-stays ys s at r zs f;
       build-refused = λ l s r o g. let e = built-is l s _ o g in e .1 ∙ book.refused-stays l s r (sym (e .0));
       write-map-refused = λ out at text ms ts r o g. let e = map-written-is out at text ms ts _ o g in e .1 ∙ rw (← e .0);

@@ -1,6 +1,6 @@
 -- The round trips, from the theorems of the writers.
 use Prim.Native.Nat.{ℕ}
-use mathlib.Core.Path.{_≡_, sym, ap}
+use mathlib.Core.Path.{_≡_, sym, _∙_, ap}
 use mathlib.Core.List.{List}
 use Rattle.packet_writer.specs.declared.WriteAnswer.{WriteAnswer}
 use Rattle.packet_writer.specs.declared.WriteAnswer.the-variants as write
@@ -8,6 +8,7 @@ use Rattle.map_writer.specs.Readers as map
 use Rattle.map_writer.proofs.RoundTrip as map-trip
 use Rattle.map_writer.proofs.Readers.{write-then-read}
 use Rattle.locator_writer.proofs.RoundTrip as locator-trip
+use Rattle.locator_writer.proofs.Laws.{wrote}
 use Rattle.locator_writer.proofs.Readers.{readers}
 use Rattle.paper_readings.specs.Calls.{WritesMap}
 use Rattle.paper_readings.proofs.Calls.{map-written-is, locator-written-is}
@@ -27,4 +28,6 @@ reads-back =
       map-readers = map-read;
       locator = λ out at step ns n o g. let e = locator-written-is out at step ns _ o g in rw (e .1) (locator-trip.round-trip out at step ns n (sym (e .0)));
       locator-readers = λ out at step ns n o g. let e = locator-written-is out at step ns _ o g in rw (e .1) (readers out at step ns n _ (locator-trip.round-trip out at step ns n (sym (e .0))));
+      map-writes = λ out at text ms ts e t h x o g. map-written-is out at text ms ts x o g .0 ∙ map-trip.accepted out at text ms ts 0 e t h;
+      locator-writes = λ out at step ns m h x o g. locator-written-is out at step ns x o g .0 ∙ wrote out at step ns m h .0;
     }

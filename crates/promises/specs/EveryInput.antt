@@ -1,11 +1,13 @@
 -- Demand 1: every input there is. Each call ends with its answer or one numbered refusal and a place; a refused call has written nothing into what it was lent.
--- Every answer is an enum whose last case is the refusal, and that a call ends is part of its function's own proof. Here: on the same input two calls have the same outcome, answer and buffer,
+-- Every answer is an enum whose last case is the refusal, or holds one (`Stop`); a name is a part, empty where it is refused, and `name_place` tells number and place. That a call ends is part of its
+-- function's own proof, and none of these asks anything of its caller (docs/PROMISES.md, "Functions that ask"). Here: on the same input two calls have the same outcome, answer and buffer,
 -- whatever the contract leaves open (an outcome of a call is any that its contract allows: paper_readings/specs/Calls.antt), and a refused call leaves what it was lent. Proved in proofs/EveryInput.antt.
 use Prim.Native.Nat.{ℕ}
 use mathlib.Core.Path.{_≡_}
 use mathlib.Core.List.{List}
 use Rattle.plate.specs.declared.Refusal.{Refusal}
 use Rattle.packet.specs.declared.PacketAnswer.{PacketAnswer}
+use Rattle.packet.specs.declared.PacketAnswer.the-variants as packet-answer
 use Rattle.walker.specs.declared.Stop.{Stop}
 use Rattle.walker.specs.declared.Walker.{Walker}
 use Rattle.walker.specs.Walk.{Stepped}
@@ -56,7 +58,8 @@ pub record EveryInput : Type 0 where
   pub build : (l s : List ℕ) (x y : BuildAnswer) (o p : List ℕ) → BuildsInto l s x o → BuildsInto l s y p → (x ≡ y) × (o ≡ p)
   pub write-map : (out : List ℕ) (at : ℕ) (text ms ts : List ℕ) (x y : WriteAnswer) (o p : List ℕ) → WritesMap out at text ms ts x o → WritesMap out at text ms ts y p → (x ≡ y) × (o ≡ p)
   pub write-locator : (out : List ℕ) (at step : ℕ) (ns : List ℕ) (x y : WriteAnswer) (o p : List ℕ) → WritesLocator out at step ns x o → WritesLocator out at step ns y p → (x ≡ y) × (o ≡ p)
-  -- a refused call has written nothing: every record and every byte is as it was
+  -- a refused call has written nothing: the walker, every record and every byte is as it was. `Stepped` and `Filled` are the contracts of `step` and `fill`, by name (tools/promises.py holds them to it)
+  pub step-refused : (w : Walker) (r : Refusal) (v : Walker) → Stepped w (packet-answer.Refused r) v → v ≡ w
   pub fill-refused : (ys : List Track) (s : List ℕ) (at : ℕ) (r : Refusal) (zs : List Track) → Filled ys s at (map-answer.Refused r) zs → zs ≡ ys
   pub build-refused : (l s : List ℕ) (r : Refusal) (o : List ℕ) → BuildsInto l s (build.Refused r) o → o ≡ l
   pub write-map-refused : (out : List ℕ) (at : ℕ) (text ms ts : List ℕ) (r : Refusal) (o : List ℕ) → WritesMap out at text ms ts (write.Refused r) o → o ≡ out

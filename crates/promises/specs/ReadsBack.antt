@@ -1,9 +1,16 @@
 -- Demand 2, writers: what is written reads back as what was given. Proved in proofs/ReadsBack.antt.
 -- `ReadBack` of each writer says what the definitions of the readers give at the place, and that the bytes before and after the packet are as they were; `Readers` says it of whatever the
 -- readers' contracts allow there. Both speak of what was given alone: a map's view (map_writer/specs/ViewGiven.antt), a table's step and entries.
-use Prim.Native.Nat.{ℕ}
+use Prim.Native.Nat.{ℕ, _+_, _*_, _≤_}
+use mathlib.Core.Path.{_≡_}
+use mathlib.Core.Bool.{true}
 use mathlib.Core.List.{List}
+use lib.ListN.{length}
+use Rattle.packet_writer.specs.declared.WriteAnswer.{WriteAnswer}
 use Rattle.packet_writer.specs.declared.WriteAnswer.the-variants as write
+use Rattle.map_given.specs.Faults.{faultOf}
+use Rattle.map_writer.specs.Write.{partsGiven, mapPacket, tracksLength}
+use Rattle.locator_writer.specs.Write.{mayWrite}
 use Rattle.map_writer.specs.ReadBack as map
 use Rattle.map_writer.specs.Readers as map-readers
 use Rattle.locator_writer.specs.ReadBack as locator
@@ -17,3 +24,8 @@ pub record ReadsBack : Type 0 where
   -- a field locator table, from its step and its entries
   pub locator : (out : List ℕ) (at step : ℕ) (ns : List ℕ) (n : ℕ) (o : List ℕ) → WritesLocator out at step ns (write.Length n) o → locator.ReadBack out at step ns n o
   pub locator-readers : (out : List ℕ) (at step : ℕ) (ns : List ℕ) (n : ℕ) (o : List ℕ) → WritesLocator out at step ns (write.Length n) o → locator-readers.Readers o at step ns
+  -- and what may be written is written, wherever there is room for it: an input without fault (a map's track section must fit its length word)
+  pub map-writes : (out : List ℕ) (at : ℕ) (text ms ts : List ℕ) → faultOf text ms ts ≡ 0 → tracksLength (partsGiven text ms ts) ≤ 65535 → at + length (mapPacket text ms ts) ≤ length out
+      → (x : WriteAnswer) (o : List ℕ) → WritesMap out at text ms ts x o → x ≡ write.Length (length (mapPacket text ms ts))
+  pub locator-writes : (out : List ℕ) (at step : ℕ) (ns : List ℕ) → mayWrite step ns ≡ true → at + (24 + 4 * length ns) ≤ length out
+      → (x : WriteAnswer) (o : List ℕ) → WritesLocator out at step ns x o → x ≡ write.Length (24 + 4 * length ns)

@@ -1,6 +1,6 @@
 -- Demand 2, seek and book: seek names the first media packet that carries track and field, and refuses exactly when none does; the seek book gives the same answer.
 -- Proved in proofs/SeekAndBook.antt. That streams are accepted, fields found and books written is computed on a stream in paper_readings (`computed`), with what that shuts out (proofs/Given.antt).
-use Prim.Native.Nat.{ℕ, _*_, _^_, _<_}
+use Prim.Native.Nat.{ℕ, _*_, _^_, _<_, _≤_}
 use mathlib.Core.Path.{_≡_}
 use mathlib.Core.List.{List}
 use lib.ListN.{length, getD, take, drop}
@@ -15,9 +15,12 @@ use Rattle.stream.specs.declared.CheckAnswer.the-variants as check
 use Rattle.stream.specs.declared.SeekAnswer.{SeekAnswer}
 use Rattle.stream.specs.declared.SeekAnswer.the-variants as seek
 use Rattle.book.specs.declared.LookupAnswer.{LookupAnswer}
+use Rattle.book.specs.Book.{bookBytes}
+use Rattle.book_builder.specs.BookBuilder.{entriesIn}
+use Rattle.book_builder.specs.declared.BuildAnswer.{BuildAnswer}
 use Rattle.book_builder.specs.declared.BuildAnswer.the-variants as build
 use Rattle.book_builder.specs.Same.{asSeek}
-use Rattle.agreement.specs.declared.Agreement.the-variants.{Two}
+use Rattle.agreement.specs.declared.Agreement.the-variants.{One, Two}
 use Rattle.agreement.proofs.compare.Kinds as compare-kinds
 use Rattle.agreement.proofs.compare.Reads as compare-reads
 use Rattle.paper_readings.specs.Calls.{Checks, Seeks, Looks, BuildsInto}
@@ -36,6 +39,13 @@ pub record SeekAndBook : Type 0 where
   -- a book of n records that was built from lent bytes, each under 256 and fewer than 2^64, as every slice has them: look-up in it gives what seek gives in the stream, for every track and field; the bytes beyond it stay
   pub book : (s : List ℕ) → ((i : ℕ) → getD s i 0 < 256) → length s < 2 ^ 64 → (l : List ℕ) (n : ℕ) (o : List ℕ) → BuildsInto l s (build.Records n) o
       → (track field : ℕ) (y : LookupAnswer) → Looks (take (16 * n) o) track field y → (z : SeekAnswer) → Seeks s track field z → asSeek y ≡ z
+  -- the builder's number is that of the stream's media packets of known type, and the book has one record for each, in order; 13 exactly where there is no room for them; else the check's own refusal
+  pub records : (l s : List ℕ) (n : ℕ) (o : List ℕ) → BuildsInto l s (build.Records n) o → (n ≡ length (entriesIn s)) × (take (16 * n) o ≡ bookBytes (entriesIn s))
+  pub built : (s : List ℕ) (k : ℕ) → Checks s (check.Packets k) → (l : List ℕ) → 16 * length (entriesIn s) ≤ length l → (x : BuildAnswer) (o : List ℕ) → BuildsInto l s x o → x ≡ build.Records (length (entriesIn s))
+  pub no-room : (s : List ℕ) (k : ℕ) → Checks s (check.Packets k) → (l : List ℕ) → length l < 16 * length (entriesIn s) → (x : BuildAnswer) (o : List ℕ) → BuildsInto l s x o → x ≡ build.Refused (refusal 13 0)
+  pub unbuilt : (s : List ℕ) (r : Refusal) → Checks s (check.Refused r) → (l : List ℕ) (x : BuildAnswer) (o : List ℕ) → BuildsInto l s x o → x ≡ build.Refused r
   pub beyond : (l s : List ℕ) (n : ℕ) (o : List ℕ) → BuildsInto l s (build.Records n) o → drop (16 * n) o ≡ drop (16 * n) l
-  -- and a program that builds, looks up and seeks never meets two answers, whatever it is lent
+  -- and a program that builds, looks up and seeks never meets two answers, whatever it is lent; it meets one wherever the builder gives a number
   pub never-two : (κs : Lfts 2) (a : Dens κs compare-kinds.ps) (x : resT compare-kinds.r κs .Denot) (t : AtExit (endedOf 2 compare-kinds.ps compare-kinds.r) κs) → compare-reads.Post κs a x t → x ≡ Two → ⊥
+  pub one : (κs : Lfts 2) (a : Dens κs compare-kinds.ps) (x : resT compare-kinds.r κs .Denot) (t : AtExit (endedOf 2 compare-kinds.ps compare-kinds.r) κs) → compare-reads.Post κs a x t
+      → (n : ℕ) (o : List ℕ) → BuildsInto (a .0 .now) (a .1 .0 .now) (build.Records n) o → x ≡ One

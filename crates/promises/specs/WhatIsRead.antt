@@ -12,9 +12,9 @@ use Rattle.mpeg_parameter.specs.declared.Parameters as parameters
 use Rattle.mpeg.specs.Meaning.{Means}
 use Rattle.mpeg.specs.declared.MpegAnswer.the-variants.{Given}
 use Rattle.paper_readings.specs.Calls.{Parameters}
-use Rattle.paper_readings.proofs.Table.{Agree, readings}
-use Rattle.paper_readings.proofs.Cases.{cases}
-use Rattle.paper_readings.proofs.Streams.{Computed}
+use Rattle.paper_readings.specs.Table.{Agree, readings}
+use Rattle.paper_readings.specs.Cases.{cases}
+use Rattle.paper_readings.specs.Streams.{Computed}
 
 pub record WhatIsRead : Type 0 where
   -- a rate, line or field code is the signed number that its four bytes are, where 01 lists it, and absent just where it does not

@@ -46,6 +46,11 @@ alone w v r t x y e f l g k =
     let b : placeAfter (w .at) (headerAt (now (w .stream)) (w .at)) ≡ placeAfter (v .at) (headerAt (now (v .stream)) (v .at)) = rw (a, e) in
     (g .0 ∙ (a ∙ sym (k .0)), ap (λ (z : Walker). z .at) (g .1) ∙ (b ∙ sym (ap (λ (z : Walker). z .at) (k .1))))
 
+-- over the contract: a refused step leaves the walker as it was
+pub step-refused : (w : Walker) (r : Refusal) (v : Walker) → Stepped w (Refused r) v → v ≡ w
+unfolding Stepped placeAfter
+step-refused w r v g = g .1 ∙ rw (← g .0)
+
 -- ---- many steps
 -- a step before step k that did not move
 record Stuck (s : List ℕ) (at k : ℕ) : Type 0 where
