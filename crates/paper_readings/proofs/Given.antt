@@ -37,8 +37,8 @@ use Rattle.mpeg.specs.declared.MpegAnswer.the-variants as mpeg-answer
 use Rattle.mpeg_parameter.specs.declared.ParameterValue.{ParameterValue}
 use Rattle.mpeg_parameter.specs.declared.ParameterValue.the-variants as parameter-value
 use Rattle.map.proofs.Samples.{M}
-use Rattle.paper_readings.proofs.Streams.{computed, bytes-needed}
-use Rattle.paper_readings.specs.Streams.{S, mute, unlent, B, room, carrying}
+use Rattle.paper_readings.proofs.Streams.{unlent, computed, bytes-needed}
+use Rattle.paper_readings.specs.Streams.{S, mute, B, room, carrying}
 use Rattle.paper_readings.proofs.Pairs.{located, N, bare, other, pairs}
 use Rattle.mpeg.proofs.Worked.{text}
 use Rattle.book_builder.proofs.build.Kinds as build-kinds

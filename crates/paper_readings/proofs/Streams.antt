@@ -1,5 +1,8 @@
 -- What is said of the stream, computed by the checker.
+use Prim.Native.Nat.{ℕ}
 use mathlib.Core.Path.{_≡_, refl}
+use mathlib.Core.List.{List, [], _∷_, _++_}
+use lib.ListN.{replicate}
 use Rattle.number.specs.Number.{be, le, leBytes}
 use Rattle.media_type.specs.MediaType.{knownType}
 use Rattle.text.specs.Text.{textOk}
@@ -18,7 +21,8 @@ use Rattle.book.specs.Book as book
 use Rattle.book.specs.declared.LookupAnswer.the-variants as lookup
 use Rattle.book_builder.specs.BookBuilder as builder
 use Rattle.book_builder.specs.declared.BuildAnswer.the-variants as build
-use Rattle.paper_readings.specs.Streams.{unlent, room, Computed}
+use Rattle.map.proofs.Samples.{headed, M}
+use Rattle.paper_readings.specs.Streams.{room, Computed}
 
 pub computed : Computed
 unfolding headerAt sizedAt packetAt be knownType textOk items.splitItems items.sectionOf items.itemsSize judge.formOf judge.isKnown judge.faultOf judge.countsAs judge.has judge.judgeItems judge.verdictOf tracks.splitTracks tracks.tracksOf tracks.trackVerdict tracks.endVerdict tracks.judgeTracks tracks.tracksVerdict tracks.isListed tracks.typesOf map.afterMaterial map.layoutOf map.bothVerdict map.sectionsVerdict map.mapVerdict map.typesIn media.preambleOf piece.contentOf piece.opens piece.pieceAt order.misplaced order.overdue order.unmapped order.eitherType order.falls order.progressAfter order.ending order.stepOf stream.packetsFrom stream.packets stream.ranOut stream.judgePackets stream.checkOf stream.carriesPiece stream.firstOf stream.seekOf leBytes builder.recorded builder.entriesHere builder.entriesOf builder.entriesIn builder.buildAnswer builder.builtIn book.recordBytes book.bookBytes le book.recordAt book.bookFrom book.bookOf book.risesAt book.stands book.judgeBook book.firstIn book.lookupOf
@@ -44,6 +48,10 @@ computed =
       no-record = refl;
       cut = refl;
     }
+
+-- a list that no slice lends: the byte 256 makes the field number 2 ^ 32, which a record cuts to 0
+abbrev pub unlent : List ℕ
+unlent = M ++ headed 0xFD 16 ++ (headed 0xBF 32 ++ (10 ∷ 1 ∷ 256 ∷ 0 ∷ 0 ∷ 0 ∷ replicate 10 0)) ++ headed 0xFB 16
 
 -- why `agree` of book_builder asks that the lent stream holds bytes: look-up and seek differ here
 pub bytes-needed : (builder.buildAnswer (room 16) unlent ≡ build.Records 1) × (book.lookupOf (builder.builtIn (room 16) unlent) 1 4294967296 ≡ lookup.Refused (refusal 16 0)) × (stream.seekOf unlent 1 4294967296 ≡ seek.At 60)

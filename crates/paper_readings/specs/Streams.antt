@@ -28,10 +28,6 @@ mute = M ++ headed 0xFD 16 ++ headed 0xFB 16
 abbrev pub unnoted : List ℕ
 unnoted = M ++ carrying 0 ++ headed 0xFB 16
 
--- a list that no slice lends: the byte 256 makes the field number 2 ^ 32, which a record cuts to 0
-abbrev pub unlent : List ℕ
-unlent = M ++ headed 0xFD 16 ++ (headed 0xBF 32 ++ (10 ∷ 1 ∷ 256 ∷ 0 ∷ 0 ∷ 0 ∷ replicate 10 0)) ++ headed 0xFB 16
-
 -- the book of S: two records of 16 bytes
 abbrev pub B : List ℕ
 B =
