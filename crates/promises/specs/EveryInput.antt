@@ -26,9 +26,9 @@ use Rattle.stream.specs.declared.CheckAnswer.{CheckAnswer}
 use Rattle.stream.specs.declared.SeekAnswer.{SeekAnswer}
 use Rattle.book.specs.declared.LookupAnswer.{LookupAnswer}
 use Rattle.book_builder.specs.declared.BuildAnswer.{BuildAnswer}
-use Rattle.book_builder.specs.declared.BuildAnswer.the-variants as build
+use Rattle.book_builder.specs.declared.BuildAnswer.the-variants as build-answer
 use Rattle.packet_writer.specs.declared.WriteAnswer.{WriteAnswer}
-use Rattle.packet_writer.specs.declared.WriteAnswer.the-variants as write
+use Rattle.packet_writer.specs.declared.WriteAnswer.the-variants as write-answer
 use Rattle.paper_readings.specs.Calls.{Headers, OfType, Walks, ReadsMap, ReadsTrack, Checks, Seeks, Looks, Tables, Positions, Preambles, Places, PlacesOfTwo, Names, NamesOfTwo, Parameters, BuildsInto, WritesMap, WritesLocator}
 
 pub record EveryInput : Type 0 where
@@ -61,6 +61,6 @@ pub record EveryInput : Type 0 where
   -- a refused call has written nothing: the walker, every record and every byte is as it was. `Stepped` and `Filled` are the contracts of `step` and `fill`, by name (tools/promises.py holds them to it)
   pub step-refused : (w : Walker) (r : Refusal) (v : Walker) → Stepped w (packet-answer.Refused r) v → v ≡ w
   pub fill-refused : (ys : List Track) (s : List ℕ) (at : ℕ) (r : Refusal) (zs : List Track) → Filled ys s at (map-answer.Refused r) zs → zs ≡ ys
-  pub build-refused : (l s : List ℕ) (r : Refusal) (o : List ℕ) → BuildsInto l s (build.Refused r) o → o ≡ l
-  pub write-map-refused : (out : List ℕ) (at : ℕ) (text ms ts : List ℕ) (r : Refusal) (o : List ℕ) → WritesMap out at text ms ts (write.Refused r) o → o ≡ out
-  pub write-locator-refused : (out : List ℕ) (at step : ℕ) (ns : List ℕ) (r : Refusal) (o : List ℕ) → WritesLocator out at step ns (write.Refused r) o → o ≡ out
+  pub build-refused : (l s : List ℕ) (r : Refusal) (o : List ℕ) → BuildsInto l s (build-answer.Refused r) o → o ≡ l
+  pub write-map-refused : (out : List ℕ) (at : ℕ) (text ms ts : List ℕ) (r : Refusal) (o : List ℕ) → WritesMap out at text ms ts (write-answer.Refused r) o → o ≡ out
+  pub write-locator-refused : (out : List ℕ) (at step : ℕ) (ns : List ℕ) (r : Refusal) (o : List ℕ) → WritesLocator out at step ns (write-answer.Refused r) o → o ≡ out
