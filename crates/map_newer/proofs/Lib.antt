@@ -5,5 +5,6 @@ pub mod Items
 pub mod Known
 pub mod Names
 pub mod Outside
+pub mod Padded
 pub mod Parts
 pub mod Tracks
