@@ -13,6 +13,7 @@ use Rattle.map_newer.specs.Known.{Clean, Kept}
 use Rattle.map_newer.specs.Strike.{struck, strike, Boundary, setInParts, setIn}
 use Rattle.map_newer.specs.Demand.{Accepted, Alike, There, Unknown, Room, Padded, Demand}
 use Rattle.map_newer.proofs.Known.{struck-clean, struck-kept}
+use Rattle.map_newer.proofs.Only.{only-one}
 use Rattle.map_newer.proofs.Padded.{encoded-padded}
 use Rattle.map_newer.proofs.Parts.{struck-good, struck-fit, struck-said, struck-again, struck-set, set-parts-good, struck-parts-bytes, set-parts-bytes, encoded-accepted, fit-parts, good-parts, byte-parts, set-fit, room-asked}
 
@@ -90,6 +91,7 @@ demand =
       accepted = remainder-accepted;
       rest = remainder-parts;
       tight = remainder-padded;
+      only = only-one;
       clean = remainder-clean;
       kept = remainder-kept;
       one-answer = remainder-alike;

@@ -4,6 +4,7 @@ pub mod Functions
 pub mod Items
 pub mod Known
 pub mod Names
+pub mod Only
 pub mod Outside
 pub mod Padded
 pub mod Parts

@@ -70,6 +70,8 @@ pub record Demand : Type 0 where
   pub rest : (m : List ℕ) → Accepted m → partsOf (strike m) ≡ struck (partsOf m)
   -- and it has the fewest zeros
   pub tight : (m : List ℕ) → Accepted m → Padded (strike m) (layoutOf (strike m))
+  -- so its bytes are settled: no two accepted maps with the fewest zeros have the same parts
+  pub only : (m n : List ℕ) → Accepted m → Accepted n → Padded m (layoutOf m) → Padded n (layoutOf n) → partsOf m ≡ partsOf n → m ≡ n
   -- nothing of the remainder is unknown, reserved or of unknown type; all else of the map is in it, in order
   pub clean : (m : List ℕ) → Accepted m → Clean (partsOf (strike m))
   pub kept : (m : List ℕ) → Accepted m → Kept (partsOf m) (partsOf (strike m))
