@@ -3,7 +3,7 @@ use Prim.Native.Nat.{ℕ, _<_}
 use mathlib.Core.Path.{_≡_, refl, sym, _∙_, ap}
 use mathlib.Core.Bool.{Bool, true, false}
 use mathlib.Core.List.{List, [], _∷_, _++_}
-use lib.ListN.{length}
+use lib.ListN.{length, getD}
 use native.Mathlib.Omega.{arith}
 use lib.Dec.{ltb}
 use borrow.Author.Tests.{ltb-true}
@@ -29,16 +29,16 @@ use Rattle.map.specs.View.{nothing, bytes, MapView, viewIn}
 use Rattle.map.specs.Parts as said
 use Rattle.map.specs.declared.MapSays.{MapSays}
 use Rattle.map.specs.Map.{mapAt}
-use Rattle.map.proofs.Samples.{headed, upToRate, M, newer, reserved, saying}
+use Rattle.map.proofs.Samples.{headed, upToRate, rateItem, M, newer, reserved, saying}
 use Rattle.map_name.specs.declared.NameAnswer.{NameAnswer}
 use Rattle.map_answer.specs.declared.Track.{Track}
 use Rattle.plate.specs.Plate.{refusal}
 use Rattle.map_newer.specs.Known as known
 use Rattle.map_newer.specs.Known.{Clean, Leaves, Same, Kept}
-use Rattle.map_newer.specs.Names.{PlaceGives, NameOutcomeView, named, viewOfNameOutcome, NameAnswers}
+use Rattle.map_newer.specs.Names.{PlaceGives, TwoPartGives, NameOutcomeView, named, viewOfNameOutcome, NameAnswers}
 use Rattle.map_newer.specs.Strike as strike
 use Rattle.map_newer.specs.Strike.{inTrack, setIn}
-use Rattle.map_newer.specs.Demand.{Accepted, Alike, There, Unknown, Room}
+use Rattle.map_newer.specs.Demand.{Accepted, Alike, There, Unknown, Room, Padded}
 use Rattle.map_items.proofs.Anywhere.{never}
 use Rattle.map.specs.declared.MapAnswer.{MapAnswer}
 use Rattle.map.specs.declared.MapAnswer.the-variants as map-answer
@@ -72,16 +72,25 @@ bytes-are (b ∷ s) e = go (ltb b 256) refl e (bytes-are s)
 abbrev pub shortest : List ℕ
 shortest = headed 0xBC 0x18 ++ (0xE0 ∷ 0xFF ∷ 0x00 ∷ 0x00 ∷ 0x00 ∷ 0x00 ∷ 0x00 ∷ 0x00 ∷ [])
 
+-- M with four zeros more, and M with another pad byte
+abbrev pub longer : List ℕ
+longer = headed 0xBC 0x30 ++ upToRate 0x0F 0x0B ++ rateItem 0xFF 0xFE ++ (0 ∷ 0 ∷ 0 ∷ 0 ∷ 0 ∷ [])
+
+abbrev pub spotted : List ℕ
+spotted = headed 0xBC 0x2C ++ upToRate 0x0F 0x0B ++ rateItem 0xFF 0xFE ++ (1 ∷ [])
+
 seen : (s : List ℕ) (m : MapSays) → bytesAre s ≡ true → be s 6 4 ≡ length s → mapAt s 0 ≡ map-answer.Says m → Accepted s
 seen s m b l e = record { bytes = λ i. by-number s (bytes-are s b) i .fits; alone = l; says = m; read = e }
 
-all-accepted : Accepted M × Accepted newer × Accepted reserved × Accepted shortest
+all-accepted : Accepted M × Accepted newer × Accepted reserved × Accepted shortest × Accepted longer × Accepted spotted
 unfolding bytesAre be headerAt sizedAt packetAt knownType textOk items.splitItems items.sectionOf items.itemsSize judge.formOf judge.isKnown judge.faultOf judge.countsAs judge.has judge.judgeItems judge.verdictOf find.find answer.valueOf answer.materialOf tracks.splitTracks tracks.tracksOf tracks.trackVerdict tracks.endVerdict tracks.judgeTracks tracks.tracksVerdict tracks.isListed tracks.listed map.afterMaterial map.layoutOf map.bothVerdict map.sectionsVerdict map.mapVerdict map.materialSays map.listedIn map.answerOf map.mapAt
 all-accepted = (
   seen M (saying 1 (value.Is 0)) refl refl refl,
   seen newer (saying 1 (value.Is 0)) refl refl refl,
   seen reserved (saying 1 (value.Is 0)) refl refl refl,
   seen shortest (saying 0 value.Absent) refl refl refl,
+  seen longer (saying 1 (value.Is 0)) refl refl refl,
+  seen spotted (saying 1 (value.Is 0)) refl refl refl,
 )
 
 pub M-accepted : Accepted M
@@ -95,6 +104,12 @@ reserved-accepted = all-accepted .2
 
 pub shortest-accepted : Accepted shortest
 shortest-accepted = all-accepted .3
+
+pub longer-accepted : Accepted longer
+longer-accepted = all-accepted .4
+
+pub spotted-accepted : Accepted spotted
+spotted-accepted = all-accepted .5
 
 -- `7E 01 55` set in after the two items of the first track gives 01's map
 abbrev pub item : Item
@@ -128,6 +143,22 @@ newer-struck = refl
 pub reserved-struck : strike.strike reserved ≡ unrated
 unfolding strike.strike strike.struck strike.struckTrack strike.kept strike.materialStays strike.trackStays strike.isReserved said.listedOf said.partsOf said.opened encode.encode encode.packetOf encode.front encode.sectionBytes encode.packetLength encode.padding encode.described beBytes be items.splitItems items.sectionOf items.itemsBytes judge.formOf judge.isKnown answer.valueOf answer.codeOf answer.allowed judge.has tracks.splitTracks tracks.tracksOf tracks.descriptionsBytes tracks.isListed knownType map.layoutOf map.afterMaterial
 reserved-struck = refl
+
+-- both have the parts of M, but not its padding
+pub padding-ignored : (said.partsOf longer ≡ said.partsOf M) × (said.partsOf spotted ≡ said.partsOf M)
+unfolding said.partsOf said.opened be items.splitItems items.sectionOf tracks.splitTracks tracks.tracksOf map.layoutOf map.afterMaterial
+padding-ignored = (refl, refl)
+
+pub M-padded : Padded M (map.layoutOf M)
+M-padded = rw newer-struck at (demand .tight newer newer-accepted)
+
+pub longer-unpadded : Padded longer (map.layoutOf longer) → ⊥
+unfolding be map.layoutOf map.afterMaterial
+longer-unpadded h = let l = h .0 in omega arith
+
+pub spotted-unpadded : Padded spotted (map.layoutOf spotted) → ⊥
+unfolding be map.layoutOf map.afterMaterial
+spotted-unpadded h = let e : _≡_ {A = List ℕ} (1 ∷ []) (0 ∷ []) = h .1 in let z : _≡_ {A = ℕ} 1 0 = ap (λ (s : List ℕ). getD s 0 0) e in omega arith
 
 -- the remainder M is clean and has all that is known of the map, which itself is not clean, nor is M with rate 9: striking nothing is shut out
 pub M-clean : Clean (said.partsOf M)
@@ -211,6 +242,11 @@ newer-name x g = M-names .1 .place 1 x g
 pub M-no-name : (x : NameAnswer) → PlaceGives M 2 x → viewOfNameOutcome M x ≡ NameOutcomeView.refused (refusal 16 0)
 unfolding ofId
 M-no-name x g = M-names .0 .place 2 x g
+
+-- of two maps with `7E 01 55`: the part that is handed out is A1
+pub newer-two-part : (v : List ℕ) → TwoPartGives newer newer 1 v → v ≡ 0x41 ∷ 0x31 ∷ []
+unfolding ofId
+newer-two-part v g = rw M-viewed at (names .part-of-two M M newer newer newer-accepted newer-accepted (newer-alike .1) (newer-alike .1) 1 v g)
 
 shortest-count : viewIn shortest .count ≡ 0
 unfolding be knownType items.splitItems items.sectionOf find.find answer.valueOf answer.allowed answer.codeOf answer.isNull answer.materialOf answer.trackOf judge.has tracks.splitTracks tracks.tracksOf tracks.isListed tracks.listed tracks.recordOf map.afterMaterial map.layoutOf map.materialSays map.listedIn shown.materialViewIn shown.trackViewIn shown.viewIn

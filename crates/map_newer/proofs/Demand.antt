@@ -5,13 +5,16 @@ use mathlib.Core.List.{List, [], _∷_}
 use Rattle.number.proofs.Bytes.{AllBytes, one-by-one, bytes-join}
 use Rattle.map_items.specs.Items.{Item, itemsBytes}
 use Rattle.map.specs.Encode.{MapParts, encode}
+use Rattle.map.specs.Map.{layoutOf}
 use Rattle.map.specs.Parts.{partsOf}
 use Rattle.map.proofs.Encoded.{Fit, parts-of-encoded}
 use Rattle.map.proofs.ViewOfParts.{view-of-parts, view-encoded}
 use Rattle.map_newer.specs.Known.{Clean, Kept}
 use Rattle.map_newer.specs.Strike.{struck, strike, Boundary, setInParts, setIn}
-use Rattle.map_newer.specs.Demand.{Accepted, Alike, There, Unknown, Room, Demand}
+use Rattle.map_newer.specs.Demand.{Accepted, Alike, There, Unknown, Room, Padded, Demand}
 use Rattle.map_newer.proofs.Known.{struck-clean, struck-kept}
+use Rattle.map_newer.proofs.Only.{only-one}
+use Rattle.map_newer.proofs.Padded.{encoded-padded}
 use Rattle.map_newer.proofs.Parts.{struck-good, struck-fit, struck-said, struck-again, struck-set, set-parts-good, struck-parts-bytes, set-parts-bytes, encoded-accepted, fit-parts, good-parts, byte-parts, set-fit, room-asked}
 
 module _ (m : List ℕ) (h : Accepted m) where
@@ -31,6 +34,11 @@ module _ (m : List ℕ) (h : Accepted m) where
   pub remainder-parts : partsOf (strike m) ≡ struck (partsOf m)
   unfolding strike
   remainder-parts = parts-of-encoded (struck (partsOf m)) rest-fit
+
+  -- with the fewest zeros
+  pub remainder-padded : Padded (strike m) (layoutOf (strike m))
+  unfolding strike
+  remainder-padded = encoded-padded (struck (partsOf m)) rest-fit
 
   pub remainder-clean : Clean (partsOf (strike m))
   remainder-clean = rw remainder-parts (struck-clean (partsOf m))
@@ -70,6 +78,10 @@ module _ (m : List ℕ) (h : Accepted m) (b : Boundary) (i : Item) (there : Ther
   unfolding setIn
   set-parts room = parts-of-encoded (setInParts b i (partsOf m)) (set-fit m h b i there room)
 
+  pub set-padded : Room b i m → Padded (setIn b i m) (layoutOf (setIn b i m))
+  unfolding setIn
+  set-padded room = encoded-padded (setInParts b i (partsOf m)) (set-fit m h b i there room)
+
   pub room-needed : (n : List ℕ) → Accepted n → partsOf n ≡ setInParts b i (partsOf m) → Room b i m
   room-needed n k e = room-asked m h b i there (rw e at (fit-parts n k))
 
@@ -78,11 +90,14 @@ demand =
     record {
       accepted = remainder-accepted;
       rest = remainder-parts;
+      tight = remainder-padded;
+      only = only-one;
       clean = remainder-clean;
       kept = remainder-kept;
       one-answer = remainder-alike;
       same-remainder = same-alike;
       set-in = set-in-alike;
+      set-tight = set-padded;
       set-there = set-parts;
       no-more = room-needed;
       twice = strike-twice;

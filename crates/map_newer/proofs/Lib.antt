@@ -4,6 +4,8 @@ pub mod Functions
 pub mod Items
 pub mod Known
 pub mod Names
+pub mod Only
 pub mod Outside
+pub mod Padded
 pub mod Parts
 pub mod Tracks

@@ -13,16 +13,17 @@ use Rattle.map_tracks.specs.declared.Kth.the-variants as kth
 use Rattle.map.specs.Map.{listedIn}
 use Rattle.map.specs.View.{heldAt, trackViewIn, viewIn}
 use Rattle.map.proofs.Within.{packet-there}
-use Rattle.map_name.specs.Name.{openedOf, unended, nameFrom, nameIn, orNotThere, nameAt, nameBytes, orElse, nameOfTwoAt}
+use Rattle.map_name.specs.Name.{openedOf, unended, nameFrom, nameIn, orNotThere, nameAt, nameBytes, orElse, nameOfTwoAt, twoBytes}
 use Rattle.map_name.specs.declared.Opened.the-variants as opened
 use Rattle.map_name.specs.declared.NameAnswer.{NameAnswer}
 use Rattle.map_name.specs.declared.NameAnswer.the-variants as name
 use Rattle.map_name.specs.declared.TwoAnswer.{TwoAnswer}
-use Rattle.map_name.proofs.Laws.{place-within}
+use Rattle.map_name.specs.declared.TwoAnswer.the-variants as two
+use Rattle.map_name.proofs.Laws.{place-within, opening-within, closing-within}
 use Rattle.map_newer.specs.Strike.{strike, setIn}
 use Rattle.map_newer.specs.Demand.{Accepted}
 use Rattle.map_newer.specs.Functions.{IdOutcomeView, viewOfIdOutcome, ofId}
-use Rattle.map_newer.specs.Names.{PlaceGives, PartGives, TwoGives, NameOutcomeView, named, viewOfNameOutcome, heldName, nameOf, viewOfPart, viewOfTwoOutcome, twoOf, NameAnswers, Names}
+use Rattle.map_newer.specs.Names.{PlaceGives, PartGives, TwoGives, TwoPartGives, TwoOutcomeView, viewOfTwoPart, NameOutcomeView, named, viewOfNameOutcome, heldName, nameOf, viewOfPart, viewOfTwoOutcome, twoOf, NameAnswers, Names}
 use Rattle.map_newer.proofs.Parts.{accepted-verdict, accepted-header}
 use Rattle.map_newer.proofs.Demand.{remainder-accepted, remainder-alike, set-in-alike}
 use Rattle.map_newer.proofs.Functions.{id-seen}
@@ -87,12 +88,33 @@ two-there : (p q : List ℕ) → Accepted p → Accepted q → (a b : List ℕ) 
 unfolding nameOfTwoAt
 two-there p q h k a b id = rw (opened-there p h a, opened-there q k b, take-append-seam p a, take-append-seam q b)
 
+two-shown : (p q : List ℕ) → Accepted p → Accepted q → (id : ℕ)
+    → viewOfTwoOutcome p q (orElse (nameIn q id) (nameIn p id)) ≡ twoOf (nameOf (ofId id (viewIn q .tracks))) (nameOf (ofId id (viewIn p .tracks)))
+two-shown p q h k id = rw (← name-shown p h id, ← name-shown q k id) (two-seen p q (nameIn q id) (nameIn p id))
+
 two-answers : (p q : List ℕ) → Accepted p → Accepted q → (id : ℕ) (x : TwoAnswer) → TwoGives p q id x
     → viewOfTwoOutcome p q x ≡ twoOf (nameOf (ofId id (viewIn q .tracks))) (nameOf (ofId id (viewIn p .tracks)))
 two-answers p q h k id x g =
     let e : x ≡ nameOfTwoAt (p ++ g .after-opening) (q ++ g .after-closing) id = rw (← g .opening, ← g .closing, ← g .track) (g .post) in
     ap (λ (y : TwoAnswer). viewOfTwoOutcome p q y) (e ∙ two-there p q h k (g .after-opening) (g .after-closing) id)
-    ∙ rw (← name-shown p h id, ← name-shown q k id) (two-seen p q (nameIn q id) (nameIn p id))
+    ∙ two-shown p q h k id
+
+-- the part that is handed out lies in one of the two maps
+two-part-there : (p q : List ℕ) → Accepted p → Accepted q → (a b : List ℕ) (id : ℕ)
+    → twoBytes (p ++ a) (q ++ b) (nameOfTwoAt (p ++ a) (q ++ b) id) ≡ viewOfTwoPart (viewOfTwoOutcome p q (orElse (nameIn q id) (nameIn p id)))
+two-part-there p q h k a b id = rw (two-there p q h k a b id) (go (orElse (nameIn q id) (nameIn p id)) (rw (append-nil p, append-nil q) at (two-there p q h k [] [] id)))
+  where
+    go : (x : TwoAnswer) → nameOfTwoAt p q id ≡ x → twoBytes (p ++ a) (q ++ b) x ≡ viewOfTwoPart (viewOfTwoOutcome p q x)
+    go (two.Opening i n) e = in-front p a i n (opening-within p q id i n e)
+    go (two.Closing i n) e = in-front q b i n (closing-within p q id i n e)
+    go (two.Refused r) e = refl
+
+two-parts : (p q : List ℕ) → Accepted p → Accepted q → (id : ℕ) (v : List ℕ) → TwoPartGives p q id v
+    → v ≡ viewOfTwoPart (twoOf (nameOf (ofId id (viewIn q .tracks))) (nameOf (ofId id (viewIn p .tracks))))
+two-parts p q h k id v g =
+    let e : v ≡ twoBytes (p ++ g .after-opening) (q ++ g .after-closing) (nameOfTwoAt (p ++ g .after-opening) (q ++ g .after-closing) id) = g .holds ∙ rw (← g .opening, ← g .closing, ← g .track) (g .post .0) in
+    e ∙ two-part-there p q h k (g .after-opening) (g .after-closing) id
+    ∙ ap (λ (s : TwoOutcomeView). viewOfTwoPart s) (two-shown p q h k id)
 
 pub names : Names
 names =
@@ -100,4 +122,5 @@ names =
       one-answer = λ m h. (name-answers m h, rw (remainder-alike m h) (name-answers (strike m) (remainder-accepted m h)));
       set-in = λ m h b i there u room. let s = set-in-alike m h b i there u room in rw (s .1) (name-answers (setIn b i m) (s .0));
       of-two = λ m n p q h k e f id x g. rw (e, f) (two-answers p q h k id x g);
+      part-of-two = λ m n p q h k e f id v g. rw (e, f) (two-parts p q h k id v g);
     }

@@ -1,4 +1,4 @@
--- Demand 3 through the functions of `map_name`: `name_place`, `name` and, of two maps, `name_place_of_two`, over their contracts as the checker reads them. Proved in proofs/Names.antt.
+-- Demand 3 through the functions of `map_name`: `name_place`, `name` and, of two maps, `name_place_of_two` and `name_of_two`, over their contracts as the checker reads them. Proved in proofs/Names.antt.
 use Prim.Native.Nat.{ℕ, _-_}
 use mathlib.Core.Path.{_≡_}
 use mathlib.Core.List.{List, [], _++_}
@@ -20,6 +20,8 @@ use Rattle.map_name.proofs.name.Kinds as part-kinds
 use Rattle.map_name.proofs.name.Reads as part-reads
 use Rattle.map_name.proofs.name_place_of_two.Kinds as two-kinds
 use Rattle.map_name.proofs.name_place_of_two.Reads as two-reads
+use Rattle.map_name.proofs.name_of_two.Kinds as two-part-kinds
+use Rattle.map_name.proofs.name_of_two.Reads as two-part-reads
 use Rattle.map_newer.specs.Strike.{strike, Boundary, setIn}
 use Rattle.map_newer.specs.Demand.{Accepted, Alike, There, Unknown, Room}
 use Rattle.map_newer.specs.Functions.{IdOutcomeView, ofId}
@@ -57,6 +59,20 @@ pub record TwoGives (m n : List ℕ) (id : ℕ) (x : TwoAnswer) : Type 0 where
   pub closing : arguments .1 .0 .now ≡ n ++ after-closing
   pub track : arguments .1 .1 .0 ≡ id
   pub post : two-reads.Post lifetimes arguments x exit
+
+-- v is the bytes of a part that the contract of `name_of_two` allows there
+pub record TwoPartGives (m n : List ℕ) (id : ℕ) (v : List ℕ) : Type 0 where
+  pub lifetimes : Lfts 1
+  pub arguments : Dens lifetimes two-part-kinds.ps
+  pub exit : AtExit (endedOf 1 two-part-kinds.ps two-part-kinds.r) lifetimes
+  pub part : resT two-part-kinds.r lifetimes .Denot
+  pub after-opening : List ℕ
+  pub after-closing : List ℕ
+  pub opening : arguments .0 .now ≡ m ++ after-opening
+  pub closing : arguments .1 .0 .now ≡ n ++ after-closing
+  pub track : arguments .1 .1 .0 ≡ id
+  pub post : two-part-reads.Post lifetimes arguments part exit
+  pub holds : v ≡ part .now
 
 -- a name's bytes, or the refusal
 pub data NameOutcomeView : Type 0 where
@@ -98,6 +114,12 @@ twoOf (named v) o = closing v
 twoOf (refused r) (named v) = opening v
 twoOf (refused r) (refused s) = TwoOutcomeView.refused (refusal 16 0)
 
+-- the part is empty where the name is refused
+abbrev pub viewOfTwoPart : TwoOutcomeView → List ℕ
+viewOfTwoPart (opening v) = v
+viewOfTwoPart (closing v) = v
+viewOfTwoPart (TwoOutcomeView.refused r) = []
+
 -- whatever the functions give of a track's name on m is the name in the one answer
 pub record NameAnswers (m : List ℕ) (answer : MapView) : Type 0 where
   pub place : (id : ℕ) (x : NameAnswer) → PlaceGives m id x → viewOfNameOutcome m x ≡ nameOf (ofId id (answer .tracks))
@@ -111,3 +133,5 @@ pub record Names : Type 0 where
   -- of two maps: on accepted ones that are alike with m and n, as their remainders are, and they with unknown items set in
   pub of-two : (m n p q : List ℕ) → Accepted p → Accepted q → Alike m p → Alike n q → (id : ℕ) (x : TwoAnswer) → TwoGives p q id x
       → viewOfTwoOutcome p q x ≡ twoOf (nameOf (ofId id (viewIn n .tracks))) (nameOf (ofId id (viewIn m .tracks)))
+  pub part-of-two : (m n p q : List ℕ) → Accepted p → Accepted q → Alike m p → Alike n q → (id : ℕ) (v : List ℕ) → TwoPartGives p q id v
+      → v ≡ viewOfTwoPart (twoOf (nameOf (ofId id (viewIn n .tracks))) (nameOf (ofId id (viewIn m .tracks))))
