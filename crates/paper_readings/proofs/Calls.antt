@@ -57,9 +57,10 @@ handed-is s at id v q g =
 
 pub handed-of-two-is : (m : List ℕ) (at : ℕ × ℕ) (n : List ℕ) (there : ℕ × ℕ) (id : ℕ) (v : List ℕ) (q : ℕ × ℕ) → HandsOutOfTwo m at n there id v q
     → (v ≡ twoBytes m n (nameOfTwoAt m n id)) × (q ≡ placeOfTwo at there (nameOfTwoAt m n id))
-handed-of-two-is m at n there id v q g =
-    (sym (ap (λ (p : List ℕ × (ℕ × ℕ)). p .0) (g .it)) ∙ g .post .0 ∙ rw (g .on .0, g .on .2, g .on .4),
-    sym (ap (λ (p : List ℕ × (ℕ × ℕ)). p .1) (g .it)) ∙ g .post .1 ∙ rw (g .on .0, g .on .1, g .on .2, g .on .3, g .on .4))
+handed-of-two-is m at n there id v q g = (
+  sym (ap (λ (p : List ℕ × (ℕ × ℕ)). p .0) (g .it)) ∙ g .post .0 ∙ rw (g .on .0, g .on .2, g .on .4),
+  sym (ap (λ (p : List ℕ × (ℕ × ℕ)). p .1) (g .it)) ∙ g .post .1 ∙ rw (g .on .0, g .on .1, g .on .2, g .on .3, g .on .4),
+)
 
 pub header-gives : (s : List ℕ) (at : ℕ) → Headers s at (headerAt s at)
 header-gives s at = record { lifetimes = ([], tt); arguments = (lent s, (at, tt)); result = headerAt s at; exit = (lent s, (at, tt)); on = (refl, refl); post = refl; it = refl }
