@@ -2,41 +2,11 @@
 // What it prints is compared, not proved: it is proved safe and to end, and so are the libraries that serve it alone, `probe_` and a name.
 use libc::STDOUT_FILENO;
 
-// The name of a track by two maps: the second is still to be read.
-fn two(out: &mut [u8], x: u64, a: &[u8]) -> usize {
-    let mut b = [0u8; 65536];
-    let n = probe_request::string(&mut b);
-    if 65536 < n {
-        return 0;
-    }
-    probe_text::name_of_two(out, a, &b[0..n], x as usize)
-}
-
-// The tracks' words are still to be read.
-fn three(out: &mut [u8], x: u64, y: u64, a: &[u8], b: &[u8]) -> usize {
-    let mut c = [0u8; 65536];
-    let n = probe_request::string(&mut c);
-    if 65536 < n {
-        return 0;
-    }
-    probe_write::map(out, a, b, &c[0..n], x as usize, y as usize)
-}
-
-// The map writer: the material's words and the tracks' are still to be read.
-fn write_map(out: &mut [u8], x: u64, y: u64, a: &[u8]) -> usize {
-    let mut b = [0u8; 65536];
-    let n = probe_request::string(&mut b);
-    if 65536 < n {
-        return 0;
-    }
-    three(out, x, y, a, &b[0..n])
-}
-
 fn writers(out: &mut [u8], function: u8, x: u64, y: u64, z: u64, a: &[u8]) -> usize {
     match function {
         11 => probe_stream::build(out, a, x as usize),
         13 => probe_write::locator(out, a, x as usize, y as usize, z),
-        _ => write_map(out, x, y, a),
+        _ => probe_write::map_request(out, x, y, a),
     }
 }
 
@@ -57,7 +27,7 @@ fn maps(out: &mut [u8], function: u8, x: u64, y: u64, a: &[u8]) -> usize {
         2 => probe_packet::of_type(out, a, x as usize, y as usize),
         3 => probe_map::map(out, a, x as usize, y as usize),
         4 => probe_text::name(out, a, x as usize, y as usize),
-        5 => two(out, x, a),
+        5 => probe_text::two(out, x, a),
         _ => probe_text::text(out, a),
     }
 }

@@ -102,3 +102,13 @@ pub fn text(out: &mut [u8], s: &[u8]) -> usize {
         MpegAnswer::Refused(r) => probe_line::refused(out, 0, r),
     }
 }
+
+// The name of a track by two maps: the second is still to be read.
+pub fn two(out: &mut [u8], x: u64, a: &[u8]) -> usize {
+    let mut b = [0u8; 65536];
+    let n = probe_request::string(&mut b);
+    if 65536 < n {
+        return 0;
+    }
+    name_of_two(out, a, &b[0..n], x as usize)
+}

@@ -70,3 +70,23 @@ pub fn map(out: &mut [u8], text: &[u8], s: &[u8], t: &[u8], at: usize, n: usize)
     }
     map_words(out, text, s, t, at, n)
 }
+
+// The tracks' words are still to be read.
+fn three(out: &mut [u8], x: u64, y: u64, a: &[u8], b: &[u8]) -> usize {
+    let mut c = [0u8; 65536];
+    let n = probe_request::string(&mut c);
+    if 65536 < n {
+        return 0;
+    }
+    map(out, a, b, &c[0..n], x as usize, y as usize)
+}
+
+// The map writer: the material's words and the tracks' are still to be read.
+pub fn map_request(out: &mut [u8], x: u64, y: u64, a: &[u8]) -> usize {
+    let mut b = [0u8; 65536];
+    let n = probe_request::string(&mut b);
+    if 65536 < n {
+        return 0;
+    }
+    three(out, x, y, a, &b[0..n])
+}
