@@ -22,7 +22,8 @@ use Rattle.map_items.specs.Judge.{andThen, judgeItems, verdictOf}
 use Rattle.map_items.specs.declared.Verdict.the-variants.{Accepted}
 use Rattle.map_items.proofs.Anywhere.{verdict-bytes}
 use Rattle.map_items.specs.declared.Section.the-variants as section
-use Rattle.map.specs.Map.{part, afterMaterial, layoutOf, materialIn, tracksIn, bothVerdict, sectionsVerdict, mapVerdict}
+use Rattle.map.specs.Map.{afterMaterial, layoutOf, materialIn, tracksIn, bothVerdict, sectionsVerdict, mapVerdict}
+use Rattle.plate.specs.Part.{part}
 use Rattle.map.specs.Parts.{opened, partsOf}
 use Rattle.map.specs.Encode.{TrackParts, MapParts, described, padding, sectionBytes, packetLength, front, packetOf, encode}
 use Rattle.map.specs.declared.Layout.the-variants.{Both}

@@ -16,7 +16,8 @@ use Rattle.map_items.proofs.Places.{at-place, either-part}
 use Rattle.map_items.proofs.Places as items
 use Rattle.map_tracks.specs.Tracks.{tracksVerdict}
 use Rattle.map_tracks.proofs.Faults as tracks
-use Rattle.map.specs.Map.{part, layoutOf, bothVerdict, sectionsVerdict, mapVerdict}
+use Rattle.map.specs.Map.{layoutOf, bothVerdict, sectionsVerdict, mapVerdict}
+use Rattle.plate.specs.Part.{part}
 use Rattle.map.specs.declared.Layout.{Layout}
 use Rattle.map.specs.declared.Layout.the-variants.{Both, One, Neither}
 use Rattle.map.proofs.Laws.{Within, layout-within, part-length}

@@ -9,7 +9,8 @@ use lib.Dec.{ltb}
 use borrow.Author.Tests.{ltb-false}
 use Rattle.plate.specs.Choice.{pick}
 use Rattle.number.specs.Number.{be}
-use Rattle.map.specs.Map.{part, afterMaterial, layoutOf, tracksIn, tracksAt, listedIn}
+use Rattle.map.specs.Map.{afterMaterial, layoutOf, tracksIn, tracksAt, listedIn}
+use Rattle.plate.specs.Part.{part}
 use Rattle.map.specs.declared.Layout.{Layout}
 use Rattle.map.specs.declared.Layout.the-variants.{Both, One, Neither}
 use Rattle.map_items.specs.declared.Part.the-variants.{At}

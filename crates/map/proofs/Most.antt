@@ -7,7 +7,8 @@ use Rattle.number.proofs.Laws.{Bytes}
 use Rattle.number.proofs.Bytes.{one-by-one, bytes-take, bytes-drop}
 use Rattle.map_items.specs.declared.Verdict.the-variants.{Accepted}
 use Rattle.map_tracks.proofs.Most.{section-64}
-use Rattle.map.specs.Map.{part, mapVerdict, listedIn}
+use Rattle.map.specs.Map.{mapVerdict, listedIn}
+use Rattle.plate.specs.Part.{part}
 use Rattle.map.proofs.Parts.{accepted-sections}
 
 pub map-64 : (p : List ℕ) → Bytes p → mapVerdict p ≡ Accepted → length (listedIn p) ≤ 64

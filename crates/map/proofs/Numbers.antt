@@ -15,7 +15,8 @@ use Rattle.map_items.specs.declared.Section.the-variants as section
 use Rattle.map_items.specs.declared.Verdict.{Verdict}
 use Rattle.map_items.specs.declared.Verdict.the-variants as verdict
 use Rattle.map_tracks.specs.Tracks.{Description, End, over, short, hangs, onBytes, trackVerdict, endVerdict, judgeTracks, tracksVerdict, tracksOf}
-use Rattle.map.specs.Map.{part, layoutOf, bothVerdict, sectionsVerdict, mapVerdict, onVerdict, answerOf, mapFrom, mapAt}
+use Rattle.map.specs.Map.{layoutOf, bothVerdict, sectionsVerdict, mapVerdict, onVerdict, answerOf, mapFrom, mapAt}
+use Rattle.plate.specs.Part.{part}
 use Rattle.map.specs.declared.Layout.{Layout}
 use Rattle.map.specs.declared.Layout.the-variants.{Both, One, Neither}
 use Rattle.map.specs.declared.MapAnswer.{MapAnswer}

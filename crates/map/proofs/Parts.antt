@@ -22,7 +22,8 @@ use Rattle.map_tracks.specs.Tracks.{Description, End, over, tracksOf, judgeTrac
 use Rattle.map_tracks.specs.Tracks as tracks
 use Rattle.map_tracks.proofs.Split as split
 use Rattle.map_tracks.proofs.Anywhere.{track-whole, passed, accepted-over, tracks-anywhere}
-use Rattle.map.specs.Map.{part, afterMaterial, layoutOf, materialIn, tracksIn, bothVerdict, sectionsVerdict, mapVerdict}
+use Rattle.map.specs.Map.{afterMaterial, layoutOf, materialIn, tracksIn, bothVerdict, sectionsVerdict, mapVerdict}
+use Rattle.plate.specs.Part.{part}
 use Rattle.map.specs.Encode.{MapParts, described, encode}
 use Rattle.map.specs.Parts.{opened, partsOf}
 use Rattle.map.specs.Inside.{Good}

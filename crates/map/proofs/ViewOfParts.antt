@@ -19,7 +19,8 @@ use Rattle.map_answer.specs.Answer.{valueOf, isNull, materialOf, trackOf}
 use Rattle.map_answer.specs.declared.Value.{Value}
 use Rattle.map_answer.specs.declared.Value.the-variants as value
 use Rattle.map_tracks.specs.Tracks.{Description, Placed, hangs, splitTracks, tracksOf, isListed, listed, recordOf}
-use Rattle.map.specs.Map.{part, layoutOf, materialIn, tracksIn, tracksAt, materialSays, listedIn}
+use Rattle.map.specs.Map.{layoutOf, materialIn, tracksIn, tracksAt, materialSays, listedIn}
+use Rattle.plate.specs.Part.{part}
 use Rattle.map.specs.Encode.{TrackParts, MapParts, described, encode}
 use Rattle.map.specs.View.{Held, nothing, bytes, heldAt, materialViewIn, trackViewIn, viewIn}
 use Rattle.map.specs.Parts.{listedOf, opened, partsOf}

@@ -13,7 +13,8 @@ use Rattle.packet.specs.declared.PacketAnswer.the-variants as packet
 use Rattle.packet.proofs.Laws.{accepts, whole}
 use Rattle.map_items.specs.declared.Verdict.the-variants as verdict
 use Rattle.map_tracks.specs.Tracks.{kthOf}
-use Rattle.map.specs.Map.{part, mapVerdict, answerOf, onKth, trackIn, mapAt, trackAt, materialSays, listedIn}
+use Rattle.map.specs.Map.{mapVerdict, answerOf, onKth, trackIn, mapAt, trackAt, materialSays, listedIn}
+use Rattle.plate.specs.Part.{part}
 use Rattle.map.specs.declared.MapAnswer.the-variants as answer
 
 module _ (a m b : List ℕ) where

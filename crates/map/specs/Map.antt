@@ -2,9 +2,10 @@
 -- p is the bytes of one packet, from its header's first byte to its length; the header itself is judged by `packetAt`, in `mapAt` and `trackAt`.
 use Prim.Native.Nat.{ℕ, _+_, _-_}
 use mathlib.Core.List.{List, []}
-use lib.ListN.{length, getD, take, drop, replicate}
+use lib.ListN.{length, getD, replicate}
 use lib.Dec.{ltb, eqb}
 use Rattle.plate.specs.Choice.{pick}
+use Rattle.plate.specs.Part.{part}
 use Rattle.plate.specs.Plate.{refusal}
 use Rattle.number.specs.Number.{be}
 use Rattle.packet.specs.Packet.{packetAt, typeMap}
@@ -26,10 +27,6 @@ use Rattle.map.specs.declared.MapAnswer.{MapAnswer}
 use Rattle.map.specs.declared.MapAnswer.the-variants as map
 use Rattle.map.specs.declared.TrackAnswer.{TrackAnswer}
 use Rattle.map.specs.declared.TrackAnswer.the-variants as track
-
--- the bytes from one place up to another
-abbrev pub part : ℕ → ℕ → List ℕ → List ℕ
-part from to s = take (to - from) (drop from s)
 
 -- the track section's length word, 16 bits, stands where the material section ends, at a
 unfoldable pub afterMaterial : List ℕ → ℕ → Layout

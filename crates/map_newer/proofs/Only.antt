@@ -10,7 +10,8 @@ use lib.Dec.{ltb}
 use Rattle.plate.specs.Choice.{pick}
 use Rattle.number.specs.Number.{be, beBytes}
 use Rattle.packet.proofs.Laws as packet
-use Rattle.map.specs.Map.{part, afterMaterial, layoutOf}
+use Rattle.map.specs.Map.{afterMaterial, layoutOf}
+use Rattle.plate.specs.Part.{part}
 use Rattle.map.specs.Encode.{padding, sectionBytes, packetLength, front, packetOf, encode}
 use Rattle.map.specs.Parts.{partsOf}
 use Rattle.map.specs.declared.Layout.{Layout}

@@ -23,7 +23,8 @@ use Rattle.map_items.proofs.Split as items
 use Rattle.map_tracks.specs.Tracks as tracks
 use Rattle.map_tracks.specs.Inside as inside-tracks
 use Rattle.map_tracks.proofs.Split as split
-use Rattle.map.specs.Map.{part, layoutOf, materialIn, tracksIn, mapVerdict, onVerdict, answerOf, mapFrom, mapAt, materialSays, listedIn}
+use Rattle.map.specs.Map.{layoutOf, materialIn, tracksIn, mapVerdict, onVerdict, answerOf, mapFrom, mapAt, materialSays, listedIn}
+use Rattle.plate.specs.Part.{part}
 use Rattle.map.specs.Encode.{MapParts, described, padding, sectionBytes, packetLength, front, packetOf, encode}
 use Rattle.map.specs.Parts.{listedOf, partsOf}
 use Rattle.map.specs.Inside.{heldOf, materialViewOfItems, viewOfParts, Good}

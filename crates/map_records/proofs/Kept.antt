@@ -18,7 +18,8 @@ use Rattle.map_items.specs.declared.Verdict.{Verdict}
 use Rattle.map_items.specs.declared.Verdict.the-variants as verdict
 use Rattle.map_answer.specs.declared.Track.{Track}
 use Rattle.map_tracks.specs.Tracks.{Placed, recordOf, kthOf}
-use Rattle.map.specs.Map.{part, listedIn, materialSays, mapVerdict, onVerdict, onTrack, onKth, answerOf, mapFrom, mapAt, trackIn, trackFrom, trackAt}
+use Rattle.map.specs.Map.{listedIn, materialSays, mapVerdict, onVerdict, onTrack, onKth, answerOf, mapFrom, mapAt, trackIn, trackFrom, trackAt}
+use Rattle.plate.specs.Part.{part}
 use Rattle.map.specs.declared.MapAnswer.{MapAnswer}
 use Rattle.map.specs.declared.MapAnswer.the-variants as map
 use Rattle.map.specs.declared.MapSays.{MapSays}

@@ -19,7 +19,8 @@ use Rattle.map_answer.specs.declared.Track.{Track}
 use Rattle.map_tracks.specs.Tracks.{Placed, recordOf, kthOf}
 use Rattle.map_tracks.specs.declared.Kth.{Kth}
 use Rattle.map_tracks.specs.declared.Kth.the-variants as kth
-use Rattle.map.specs.Map.{part, listedIn, materialSays, mapVerdict, onVerdict, answerOf, mapFrom, mapAt}
+use Rattle.map.specs.Map.{listedIn, materialSays, mapVerdict, onVerdict, answerOf, mapFrom, mapAt}
+use Rattle.plate.specs.Part.{part}
 use Rattle.map.specs.declared.MapAnswer.{MapAnswer}
 use Rattle.map.specs.declared.MapAnswer.the-variants as map
 use Rattle.map.specs.declared.MapSays.{MapSays}

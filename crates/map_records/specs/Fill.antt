@@ -11,7 +11,8 @@ use Rattle.packet.specs.declared.PacketAnswer.{PacketAnswer}
 use Rattle.packet.specs.declared.PacketAnswer.the-variants as packet
 use Rattle.map_answer.specs.declared.Track.{Track}
 use Rattle.map_tracks.specs.Tracks.{recordOf}
-use Rattle.map.specs.Map.{part, listedIn, mapAt}
+use Rattle.map.specs.Map.{listedIn, mapAt}
+use Rattle.plate.specs.Part.{part}
 use Rattle.map.specs.declared.MapAnswer.{MapAnswer}
 use Rattle.map.specs.declared.MapAnswer.the-variants as map
 

@@ -5,7 +5,8 @@ use mathlib.Core.List.{List}
 use native.Mathlib.Omega.{arith}
 use borrow.Author.Tests.{lt-ltb, le-ltb}
 use lib.ListN.{length}
-use Rattle.mpeg.specs.Lines.{Lines, part, valueEnd, valueThen, labelAt, linesAt}
+use Rattle.mpeg.specs.Lines.{Lines, valueEnd, valueThen, labelAt, linesAt}
+use Rattle.plate.specs.Part.{part}
 use Rattle.mpeg.specs.Read.{fine, bad, judgeLines, taken}
 use Rattle.mpeg.specs.Inside.{Skipped}
 use Rattle.plate.specs.declared.Refusal.{Refusal}
@@ -43,12 +44,12 @@ module _ (s : List ℕ) (p k at e : ℕ) (rest : ℕ → Lines) (u : e ≡ value
   judge-cut h = rw (← u) (simp (le-ltb e (length s) h))
 
   module _ (h : e < length s) where
-    pub judge-fault : (r : Refusal) → taken slots p k (part s at e) .verdict ≡ Bad r
-        → judgeLines slots (valueThen s p k at rest) ≡ record { verdict = Bad r; slots = taken slots p k (part s at e) .slots }
+    pub judge-fault : (r : Refusal) → taken slots p k (part at e s) .verdict ≡ Bad r
+        → judgeLines slots (valueThen s p k at rest) ≡ record { verdict = Bad r; slots = taken slots p k (part at e s) .slots }
     unfolding judgeLines
     judge-fault r f = rw (← u) (simp (lt-ltb e (length s) h, f))
 
-    pub judge-taken : taken slots p k (part s at e) .verdict ≡ Fine
-        → judgeLines slots (valueThen s p k at rest) ≡ judgeLines (taken slots p k (part s at e) .slots) (rest (e + 1))
+    pub judge-taken : taken slots p k (part at e s) .verdict ≡ Fine
+        → judgeLines slots (valueThen s p k at rest) ≡ judgeLines (taken slots p k (part at e s) .slots) (rest (e + 1))
     unfolding judgeLines
     judge-taken f = rw (← u) (simp (lt-ltb e (length s) h, f))

@@ -13,7 +13,8 @@ use Rattle.plate.specs.Choice.{pick}
 use Rattle.mpeg_scan.specs.Scan.{alnum, other}
 use Rattle.mpeg_scan.proofs.Laws.{run-first, run-from, past}
 use Rattle.mpeg_parameter.specs.Table.{rowOf}
-use Rattle.mpeg.specs.Lines.{Lines, done, part, nameEnd, valueEnd, labelAt, labelThen, linesFrom, linesAt}
+use Rattle.mpeg.specs.Lines.{Lines, done, nameEnd, valueEnd, labelAt, labelThen, linesFrom, linesAt}
+use Rattle.plate.specs.Part.{part}
 use Rattle.mpeg.specs.declared.Label.{Label}
 use Rattle.mpeg.specs.declared.Label.the-variants.{Names, Broken}
 
@@ -24,7 +25,7 @@ alnum-some (suc b) e = omega arith
 
 module _ (s : List ℕ) (at : ℕ) where
   -- an identifier's first byte is no 0
-  pub first : at < length s → at < nameEnd s at → 0 < getD (part s at (nameEnd s at)) 0 0
+  pub first : at < length s → at < nameEnd s at → 0 < getD (part at (nameEnd s at) s) 0 0
   first h k =
       rw (getD-take (nameEnd s at - at) (drop at s) 0 0 (omega arith), getD-drop at s 0 0, add-zero)
       (alnum-some (getD s at 0) (run-first alnum s at 0 h k))
@@ -46,7 +47,7 @@ unfolding labelAt
 label-in s at k v = go (ltb at (nameEnd s at)) (eqb (getD s (nameEnd s at) 0) 0x20) refl refl
   where
     go : (a b : Bool) → ltb at (nameEnd s at) ≡ a → eqb (getD s (nameEnd s at) 0) 0x20 ≡ b
-        → pick a (pick b (Names (rowOf (part s at (nameEnd s at))) (nameEnd s at + 1)) Broken) Broken ≡ Names k v → (at < v) × (v ≤ length s)
+        → pick a (pick b (Names (rowOf (part at (nameEnd s at) s)) (nameEnd s at + 1)) Broken) Broken ≡ Names k v → (at < v) × (v ≤ length s)
     go true true p q e =
         let w : nameEnd s at + 1 ≡ v = cc in
         let h = ltb-true at (nameEnd s at) p in
