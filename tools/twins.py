@@ -166,13 +166,13 @@ use mathlib.Core.Path.{_≡_, refl}
 use mathlib.Core.List.{List, [], _∷_}
 use Rattle.number.specs.Number.{be, beBytes}
 use Rattle.media_type.specs.MediaType.{knownType}
-use Rattle.items.specs.Items as items
-use Rattle.items.specs.Judge as judge
-use Rattle.answer.specs.Answer as answer
-use Rattle.track_section.specs.Tracks as tracks
+use Rattle.map_items.specs.Items as items
+use Rattle.map_items.specs.Judge as judge
+use Rattle.map_answer.specs.Answer as answer
+use Rattle.map_tracks.specs.Tracks as tracks
 use Rattle.map.specs.Map as map
 use Rattle.map.specs.Encode as encode
-use Rattle.map.specs.Said as said
+use Rattle.map.specs.Parts as said
 use Rattle.map_newer.specs.Strike as strike
 
 -- a map and its twin, each as so many bytes and the number that they are
@@ -189,8 +189,8 @@ pairs =
 """
 
 UNFOLD = ('pairs strike.strike strike.struck strike.struckTrack strike.kept strike.materialStays strike.trackStays strike.isReserved said.listedOf said.partsOf said.opened '
-          'encode.encode encode.packetOf encode.front encode.sectionBytes encode.packetLength encode.padding encode.described beBytes be items.split items.sectionOf items.bytesOf '
-          'judge.formOf judge.isKnown judge.has answer.valueOf answer.codeOf answer.allowed tracks.split tracks.tracksOf tracks.bytesOf tracks.isListed knownType map.layoutOf map.afterMaterial')
+          'encode.encode encode.packetOf encode.front encode.sectionBytes encode.packetLength encode.padding encode.described beBytes be items.splitItems items.sectionOf items.itemsBytes '
+          'judge.formOf judge.isKnown judge.has answer.valueOf answer.codeOf answer.allowed tracks.splitTracks tracks.tracksOf tracks.descriptionsBytes tracks.isListed knownType map.layoutOf map.afterMaterial')
 
 def table(packets, count):
     """some pairs of short maps, for the checker"""
