@@ -1,4 +1,5 @@
 pub mod Anywhere
+pub mod Bits
 pub mod Faults
 pub mod Judged
 pub mod Listed

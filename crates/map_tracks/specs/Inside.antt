@@ -1,8 +1,8 @@
 -- What serves the code and the proofs alone: the set of IDs seen, how many bytes tracks take, and both ways to ask for a track in one.
-use Prim.Native.Nat.{ℕ, _-_, _≤_, _<_, _+_}
+use Prim.Native.Nat.{ℕ, _-_, _≤_, _<_, _+_, _/_, _%_, _^_}
 use mathlib.Core.Path.{_≡_}
 use mathlib.Core.Bool.{Bool, true, false}
-use lib.ListN.{getD, length}
+use lib.ListN.{length}
 use lib.Dec.{eqb}
 use Rattle.plate.specs.Choice.{pick}
 use Rattle.map_tracks.specs.declared.Seen.{Seen}
@@ -11,9 +11,9 @@ use Rattle.map_tracks.specs.declared.Kth.{Kth}
 use Rattle.map_tracks.specs.declared.Kth.the-variants.{Record, Nothing}
 use Rattle.map_tracks.specs.Tracks.{Description, Placed, recordOf}
 
--- whether an ID byte, C0 to FF, is in the set
+-- whether an ID byte, C0 to FF, is in the set: ID k is bit k of the number
 unfoldable pub holds : Seen → ℕ → Bool
-holds s id = getD (s .flags) (id - 0xC0) false
+holds s id = eqb (s .ids / 2 ^ (id - 0xC0) % 2) 1
 
 -- the set with no ID, and a set with one ID more
 abbrev pub Empty : Seen → Type 0

@@ -12,9 +12,9 @@ ghost use Rattle.media_type.specs.MediaType.{knownType};
 ghost use Rattle.map_tracks.specs.Inside.{holds, Empty, Adds, keyOf, keyedOf};
 ghost use Rattle.map_tracks.specs.Tracks.{trackVerdict, tracksOf, tracksVerdict, listed, kthOf, idOf, typesOf};
 
-// The track IDs seen so far.
+// The track IDs seen so far: bit k, worth 2^k, is ID k.
 pub struct Seen {
-    pub flags: [bool; 64],
+    pub ids: u64,
 }
 
 // By ID, the type under which a track is listed; 0 where none is.
@@ -31,7 +31,7 @@ pub enum Kth {
 fn nobody() -> Seen
     ensures { λ r. ⌜ Empty r ⌝ }
 {
-    Seen { flags: [false; 64] }
+    Seen { ids: 0 }
 }
 
 fn has(seen: Seen, id: u8) -> bool
@@ -39,7 +39,7 @@ fn has(seen: Seen, id: u8) -> bool
     ensures { λ r. ⌜ r ≡ holds seen id ⌝ }
 {
     let k = number::wide(id) - 0xC0;
-    seen.flags[k]
+    (seen.ids >> k) % 2 == 1
 }
 
 fn with(seen: Seen, id: u8) -> Seen
@@ -47,9 +47,9 @@ fn with(seen: Seen, id: u8) -> Seen
     ensures { λ r. ⌜ Adds seen id r ⌝ }
 {
     let k = number::wide(id) - 0xC0;
-    let mut next = seen;
-    next.flags[k] = true;
-    next
+    Seen {
+        ids: seen.ids | (1 << k),
+    }
 }
 
 // Whether a track of a type byte is listed.

@@ -10,12 +10,12 @@ wide-requires c κs = search needs
 sub-k : tie.Need-sub-k
 sub-k c = search needs
 
-element-copy-out-result : tie.Need-element-copy-out-result
-element-copy-out-result c = search needs
+shr-result : tie.Need-shr-result
+shr-result c = search needs
 
 returns : tie.Need-returns
 unfolding holds
 returns c = rw (c .before .wide .ensures)
 
 pub has-spec : {M : Type 1} → statement M
-has-spec = tie.close (tie.spec wide-requires sub-k element-copy-out-result returns)
+has-spec = tie.close (tie.spec wide-requires sub-k shr-result returns)

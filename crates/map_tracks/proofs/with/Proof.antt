@@ -3,24 +3,29 @@ use borrow.Author.Needs.{needs}
 use Rattle.map_tracks.proofs.with.Statement.{statement}
 use Rattle.map_tracks.proofs.with.Tie as tie
 use native.Mathlib.Omega.{arith}
-use Prim.Native.Nat.{ℕ, _-_, _≤_, _<_}
-use mathlib.Core.Path.{_≡_, refl}
+use native.Mathlib.Nat.{one-mul}
+use Prim.Native.Nat.{ℕ, _-_, _*_, _/_, _%_, _^_, _≤_, _<_}
+use mathlib.Core.Path.{_≡_, refl, ap, _∙_}
 use mathlib.Core.Bool.{Bool, true, false}
-use mathlib.Core.List.{List}
-use lib.ListN.{length, getD, set}
-use lib.Seq.{getD-set-same, getD-set-other}
+use lib.Bits.{bitOr}
+use lib.Pow.{shl-exact}
 use lib.Dec.{eqb}
-use borrow.Author.Tests.{eqb-true, eqb-false}
+use borrow.Author.Tests.{eqb-true, eqb-false, eq-eqb, ne-eqb}
 use Rattle.plate.specs.Choice.{pick}
 use Rattle.map_tracks.specs.Inside.{holds}
+use Rattle.map_tracks.proofs.Bits.{bit-set}
 
-added : (flags : List Bool) (id k : ℕ) → length flags ≡ 64 → 0xC0 ≤ id → 0xC0 ≤ k → k < 256
-    → getD (set flags (id - 0xC0) true) (k - 0xC0) false ≡ pick (eqb k id) true (getD flags (k - 0xC0) false)
-added flags id k l a b d = go (eqb k id) refl
+-- the bit of an ID byte: the shift loses nothing
+bit-of : (id : ℕ) → id < 256 → 1 * 2 ^ (id - 0xC0) % 2 ^ 64 ≡ 2 ^ (id - 0xC0)
+bit-of id h = shl-exact 1 (id - 0xC0) 64 (omega arith) (omega arith) ∙ one-mul (2 ^ (id - 0xC0))
+
+-- ID bytes differ as their bits do
+added : (n id k : ℕ) → 0xC0 ≤ id → 0xC0 ≤ k → eqb (bitOr n (2 ^ (id - 0xC0)) / 2 ^ (k - 0xC0) % 2) 1 ≡ pick (eqb k id) true (eqb (n / 2 ^ (k - 0xC0) % 2) 1)
+added n id k a b = ap (λ (x : ℕ). eqb x 1) (bit-set n (k - 0xC0) (id - 0xC0)) ∙ go (eqb k id) refl
   where
-    go : (t : Bool) → eqb k id ≡ t → getD (set flags (id - 0xC0) true) (k - 0xC0) false ≡ pick t true (getD flags (k - 0xC0) false)
-    go true q = let e = eqb-true k id q in rw e (getD-set-same flags (id - 0xC0) true false (omega arith))
-    go false q = let e = eqb-false k id q in getD-set-other flags (id - 0xC0) (k - 0xC0) true false (λ j. e (omega arith))
+    go : (t : Bool) → eqb k id ≡ t → eqb (pick (eqb (k - 0xC0) (id - 0xC0)) 1 (n / 2 ^ (k - 0xC0) % 2)) 1 ≡ pick t true (eqb (n / 2 ^ (k - 0xC0) % 2) 1)
+    go true q = let e = eqb-true k id q in rw (eq-eqb (k - 0xC0) (id - 0xC0) (omega arith))
+    go false q = let e = eqb-false k id q in rw (ne-eqb (k - 0xC0) (id - 0xC0) (λ j. e (omega arith)))
 
 wide-requires : tie.Need-wide-requires
 wide-requires c κs = search needs
@@ -28,12 +33,14 @@ wide-requires c κs = search needs
 sub-k : tie.Need-sub-k
 sub-k c = search needs
 
-element-write-next : tie.Need-element-write-next
-element-write-next c = search needs
+shl-t6 : tie.Need-shl-t6
+shl-t6 c = search needs
 
 returns : tie.Need-returns
 unfolding holds
-returns c k a b = let n : length (c .before .args .seen .flags) ≡ 64 = search needs in rw (c .wide .ensures) (added (c .before .args .seen .flags) (c .before .args .id) k n (c .before .pre) a b)
+returns c k a b =
+    let h : c .before .before .args .id < 256 = search needs in
+    rw (c .before .wide .ensures, bit-of (c .before .before .args .id) h) (added (c .before .before .args .seen .ids) (c .before .before .args .id) k (c .before .before .pre) a)
 
 pub with-spec : {M : Type 1} → statement M
-with-spec = tie.close (tie.spec wide-requires sub-k element-write-next returns)
+with-spec = tie.close (tie.spec wide-requires sub-k shl-t6 returns)
