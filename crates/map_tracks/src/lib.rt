@@ -47,8 +47,9 @@ fn with(seen: Seen, id: u8) -> Seen
     ensures { λ r. ⌜ Adds seen id r ⌝ }
 {
     let k = number::wide(id) - 0xC0;
+    let bit: u64 = 1 << k;
     Seen {
-        ids: seen.ids | (1 << k),
+        ids: seen.ids | bit,
     }
 }
 

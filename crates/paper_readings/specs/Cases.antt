@@ -1,4 +1,4 @@
--- Cases of order in a map and in auxiliary text, each with the refusal that 01's walk gives, and a map of all 64 IDs. Proved in proofs/Cases.antt.
+-- Cases of order in a map and in auxiliary text, each with the refusal that 01's walk gives, and all 64 IDs, once and with one of them again. Proved in proofs/Cases.antt.
 use Prim.Native.Nat.{ℕ, zero, suc, _+_, _-_}
 use mathlib.Core.List.{List, [], _∷_, _++_}
 use lib.ListN.{length, replicate}
@@ -82,4 +82,11 @@ cases =
     ∷ textAs (ver 0x31 ++ (0 ∷ [])) 27 0
     -- 64 tracks with all IDs
     ∷ record { Answer = MapAnswer; gives = map.mapAt (framed 1 0x18 (bare 1 0 ++ idTracks 64 0xC0 ++ (0 ∷ 0 ∷ []))) 0; says = empty 64 }
+    -- the first and the last ID again after these, 0 and 63: 10 at the 65th track
+    ∷ refusedAs (framed 1 0x1C (bare 1 4 ++ idTracks 64 0xC0 ++ (0x8A ∷ 0xC0 ∷ 0 ∷ 0 ∷ 0 ∷ 0 ∷ []))) 10 278
+    ∷ refusedAs (framed 1 0x1C (bare 1 4 ++ idTracks 64 0xC0 ++ (0x8A ∷ 0xFF ∷ 0 ∷ 0 ∷ 0 ∷ 0 ∷ []))) 10 278
+    -- each of them twice and no other, and an ID of two unlisted tracks: 10 at the later header
+    ∷ refusedAs (framed 0 32 (bare 0 8 ++ (0x8A ∷ 0xC0 ∷ 0 ∷ 0 ∷ 0x8A ∷ 0xC0 ∷ 0 ∷ 0 ∷ 0 ∷ 0 ∷ []))) 10 26
+    ∷ refusedAs (framed 0 32 (bare 0 8 ++ (0x8A ∷ 0xFF ∷ 0 ∷ 0 ∷ 0x8A ∷ 0xFF ∷ 0 ∷ 0 ∷ 0 ∷ 0 ∷ []))) 10 26
+    ∷ refusedAs (framed 0 32 (bare 0 8 ++ (0xFF ∷ 0xC1 ∷ 0 ∷ 0 ∷ 0xFE ∷ 0xC1 ∷ 0 ∷ 0 ∷ 0 ∷ 0 ∷ []))) 10 26
     ∷ []

@@ -5,7 +5,7 @@ use Rattle.map_tracks.proofs.with.Tie as tie
 use native.Mathlib.Omega.{arith}
 use native.Mathlib.Nat.{one-mul}
 use Prim.Native.Nat.{ℕ, _-_, _*_, _/_, _%_, _^_, _≤_, _<_}
-use mathlib.Core.Path.{_≡_, refl, ap, _∙_}
+use mathlib.Core.Path.{_≡_, refl, _∙_}
 use mathlib.Core.Bool.{Bool, true, false}
 use lib.Bits.{bitOr}
 use lib.Pow.{shl-exact}
@@ -19,9 +19,10 @@ use Rattle.map_tracks.proofs.Bits.{bit-set}
 bit-of : (id : ℕ) → id < 256 → 1 * 2 ^ (id - 0xC0) % 2 ^ 64 ≡ 2 ^ (id - 0xC0)
 bit-of id h = shl-exact 1 (id - 0xC0) 64 (omega arith) (omega arith) ∙ one-mul (2 ^ (id - 0xC0))
 
--- ID bytes differ as their bits do
-added : (n id k : ℕ) → 0xC0 ≤ id → 0xC0 ≤ k → eqb (bitOr n (2 ^ (id - 0xC0)) / 2 ^ (k - 0xC0) % 2) 1 ≡ pick (eqb k id) true (eqb (n / 2 ^ (k - 0xC0) % 2) 1)
-added n id k a b = ap (λ (x : ℕ). eqb x 1) (bit-set n (k - 0xC0) (id - 0xC0)) ∙ go (eqb k id) refl
+-- once it is set, an ID byte is in the set if it is this one or was there
+added : (n id k : ℕ) → 0xC0 ≤ id → id < 256 → 0xC0 ≤ k
+    → eqb (bitOr n (1 * 2 ^ (id - 0xC0) % 2 ^ 64) / 2 ^ (k - 0xC0) % 2) 1 ≡ pick (eqb k id) true (eqb (n / 2 ^ (k - 0xC0) % 2) 1)
+added n id k a h b = rw (bit-of id h, bit-set n (k - 0xC0) (id - 0xC0)) (go (eqb k id) refl)
   where
     go : (t : Bool) → eqb k id ≡ t → eqb (pick (eqb (k - 0xC0) (id - 0xC0)) 1 (n / 2 ^ (k - 0xC0) % 2)) 1 ≡ pick t true (eqb (n / 2 ^ (k - 0xC0) % 2) 1)
     go true q = let e = eqb-true k id q in rw (eq-eqb (k - 0xC0) (id - 0xC0) (omega arith))
@@ -33,14 +34,14 @@ wide-requires c κs = search needs
 sub-k : tie.Need-sub-k
 sub-k c = search needs
 
-shl-t6 : tie.Need-shl-t6
-shl-t6 c = search needs
+shl-bit : tie.Need-shl-bit
+shl-bit c = search needs
 
 returns : tie.Need-returns
 unfolding holds
 returns c k a b =
     let h : c .before .before .args .id < 256 = search needs in
-    rw (c .before .wide .ensures, bit-of (c .before .before .args .id) h) (added (c .before .before .args .seen .ids) (c .before .before .args .id) k (c .before .before .pre) a)
+    rw (c .before .wide .ensures) (added (c .before .before .args .seen .ids) (c .before .before .args .id) k (c .before .before .pre) h a)
 
 pub with-spec : {M : Type 1} → statement M
-with-spec = tie.close (tie.spec wide-requires sub-k shl-t6 returns)
+with-spec = tie.close (tie.spec wide-requires sub-k shl-bit returns)
