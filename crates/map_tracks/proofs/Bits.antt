@@ -2,7 +2,7 @@
 use Prim.Native.Nat.{ℕ, max, _+_, _-_, _*_, _/_, _%_, _^_, _≤_, _<_}
 use native.Mathlib.Nat.{max-zero, max-eq-right, max-le, mul-add-mod-self-right, mul-mod-left, mod-eq-of-lt, div-eq-of-lt, div-self}
 use native.Mathlib.Omega.{arith}
-use mathlib.Core.Path.{_≡_, refl, sym, ap, _∙_}
+use mathlib.Core.Path.{_≡_, refl, ap, _∙_}
 use mathlib.Core.Bool.{Bool, true, false}
 use lib.Bits.{bitOr, or-step, or-shr}
 use lib.Pow.{pow-pos, pow-lt, pow-add, shl-shr}
