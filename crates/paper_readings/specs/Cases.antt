@@ -85,8 +85,10 @@ cases =
     -- the first and the last ID again after these, 0 and 63: 10 at the 65th track
     ∷ refusedAs (framed 1 0x1C (bare 1 4 ++ idTracks 64 0xC0 ++ (0x8A ∷ 0xC0 ∷ 0 ∷ 0 ∷ 0 ∷ 0 ∷ []))) 10 278
     ∷ refusedAs (framed 1 0x1C (bare 1 4 ++ idTracks 64 0xC0 ++ (0x8A ∷ 0xFF ∷ 0 ∷ 0 ∷ 0 ∷ 0 ∷ []))) 10 278
-    -- each of them twice and no other, and an ID of two unlisted tracks: 10 at the later header
+    -- each of them twice and no other: 10 at the later header
     ∷ refusedAs (framed 0 32 (bare 0 8 ++ (0x8A ∷ 0xC0 ∷ 0 ∷ 0 ∷ 0x8A ∷ 0xC0 ∷ 0 ∷ 0 ∷ 0 ∷ 0 ∷ []))) 10 26
     ∷ refusedAs (framed 0 32 (bare 0 8 ++ (0x8A ∷ 0xFF ∷ 0 ∷ 0 ∷ 0x8A ∷ 0xFF ∷ 0 ∷ 0 ∷ 0 ∷ 0 ∷ []))) 10 26
+    -- an ID of two unlisted tracks, and of a listed one and then an unlisted one
     ∷ refusedAs (framed 0 32 (bare 0 8 ++ (0xFF ∷ 0xC1 ∷ 0 ∷ 0 ∷ 0xFE ∷ 0xC1 ∷ 0 ∷ 0 ∷ 0 ∷ 0 ∷ []))) 10 26
+    ∷ refusedAs (framed 0 32 (bare 0 8 ++ (0x8A ∷ 0xC1 ∷ 0 ∷ 0 ∷ 0xFF ∷ 0xC1 ∷ 0 ∷ 0 ∷ 0 ∷ 0 ∷ []))) 10 26
     ∷ []
