@@ -1,4 +1,5 @@
 pub mod Clean
 pub mod Ids
 pub mod Laws
+pub mod Numbers
 pub mod Once

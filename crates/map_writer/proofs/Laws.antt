@@ -4,30 +4,39 @@ use mathlib.Core.Path.{_≡_, refl}
 use mathlib.Core.Bool.{Bool, true, false}
 use mathlib.Core.List.{List}
 use native.Mathlib.Omega.{arith}
-use borrow.Author.Tests.{lt-ltb, le-ltb, ltb-true, ltb-false}
+use borrow.Author.Tests.{ltb-false}
 use lib.Dec.{ltb, eqb}
 use Rattle.plate.specs.Choice.{pick}
 use Rattle.map_given.specs.declared.Slot.{Slot}
 use Rattle.map_given.specs.Given.{slotAt, slots, trackAt, tracksFrom}
-use Rattle.map_writer.specs.Inside.{slotSize, slotsSize, tracksSize, capped}
+use Rattle.map_writer.specs.Inside.{slotSize, slotsSize, tracksSize}
 use Rattle.map_given.specs.Faults.{isText, isEight}
 use Rattle.map_given.proofs.Laws.{slots-more, no-slots, tracks-more, no-tracks}
 
-pub slot-under : (s : Slot) → slotSize s ≤ 257
+-- a text, a 4D, a number
+pub slot-under : (s : Slot) → slotSize s ≤ pick (isText (s .tag)) 257 (pick (isEight (s .tag)) 10 6)
 unfolding slotSize
 slot-under s = go (eqb (s .mark) 1) (isText (s .tag)) (ltb 254 (s .second)) refl (isEight (s .tag))
   where
-    go : (a b x : Bool) → ltb 254 (s .second) ≡ x → (y : Bool) → pick a (pick b (pick x 0 (3 + s .second)) (pick y 10 6)) 0 ≤ 257
+    go : (a b x : Bool) → ltb 254 (s .second) ≡ x → (y : Bool) → pick a (pick b (pick x 0 (3 + s .second)) (pick y 10 6)) 0 ≤ pick b 257 (pick y 10 6)
     go true true true e y = omega arith
     go true true false e y = omega (arith, ltb-false)
     go true false x e true = omega arith
     go true false x e false = omega arith
     go false b x e y = omega arith
 
+any-under : (s : Slot) → slotSize s ≤ 257
+any-under s = go (isText (s .tag)) (isEight (s .tag)) (slot-under s)
+  where
+    go : (a b : Bool) → slotSize s ≤ pick a 257 (pick b 10 6) → slotSize s ≤ 257
+    go true b h = h
+    go false true h = omega arith
+    go false false h = omega arith
+
 pub slots-under : (n : ℕ) (ws : List ℕ) (at tag : ℕ) → slotsSize (slots n ws at tag) ≤ 257 * n
 unfolding slots slotsSize
 slots-under zero ws at tag = omega arith
-slots-under (suc n) ws at tag = omega (arith, slot-under (slotAt ws at tag), slots-under n ws (at + 3) (tag + 1))
+slots-under (suc n) ws at tag = omega (arith, any-under (slotAt ws at tag), slots-under n ws (at + 3) (tag + 1))
 
 module _ (ws : List ℕ) where
   pub slots-size-turn : (n at tag : ℕ) → 0 < n → slotsSize (slots n ws at tag) ≡ slotSize (slotAt ws at tag) + slotsSize (slots (n - 1) ws (at + 3) (tag + 1))
@@ -45,28 +54,3 @@ module _ (ws : List ℕ) where
   pub tracks-size-out : (n at : ℕ) → n ≤ 0 → tracksSize (tracksFrom n ws at) ≡ 0
   unfolding tracksSize
   tracks-size-out n at h = rw (no-tracks n ws at h)
-
-pub cap-over : (n : ℕ) → 65535 < n → capped n ≡ 65536
-unfolding capped
-cap-over n h = rw (lt-ltb 65535 n h)
-
--- a capped size, told by what it passes
-pub cap-under : (n r : ℕ) → r ≡ capped n → 65535 < r → 65535 < n
-unfolding capped
-cap-under n r e h = go (ltb 65535 n) refl e
-  where
-    go : (b : Bool) → ltb 65535 n ≡ b → r ≡ pick b 65536 n → 65535 < n
-    go true q f = ltb-true _ _ q
-    go false q f = omega arith
-
-pub cap-is : (n r : ℕ) → r ≡ capped n → r ≤ 65535 → r ≡ n
-unfolding capped
-cap-is n r e h = go (ltb 65535 n) e
-  where
-    go : (b : Bool) → r ≡ pick b 65536 n → r ≡ n
-    go true f = absurd (omega arith)
-    go false f = f
-
-pub cap-within : (n : ℕ) → n ≤ 65535 → capped n ≡ n
-unfolding capped
-cap-within n h = rw (le-ltb 65535 n h)

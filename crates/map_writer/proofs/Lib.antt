@@ -1,4 +1,6 @@
+pub mod Bounds
 pub mod Judged
+pub mod Largest
 pub mod Laws
 pub mod Meaning
 pub mod Once

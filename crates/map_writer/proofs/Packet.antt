@@ -1,11 +1,11 @@
 -- The packet put together from its runs, and the outcomes of a call.
-use Prim.Native.Nat.{ℕ, _+_, _-_, _<_, _≤_}
+use Prim.Native.Nat.{ℕ, _+_, _-_}
 use mathlib.Core.Path.{_≡_, refl, sym, _∙_, ap}
 use mathlib.Core.Bool.{true, false}
 use mathlib.Core.List.{List, [], _∷_, _++_, append-assoc}
 use native.Mathlib.Omega.{arith}
 use native.Mathlib.Nat.{zero-add}
-use borrow.Author.Tests.{ne-eqb, le-ltb, lt-ltb}
+use borrow.Author.Tests.{ne-eqb}
 use lib.ListN.{length, set, replicate, length-append}
 use lib.Seq.{sets}
 use lib.Dec.{ltb}
@@ -21,8 +21,7 @@ use Rattle.map.proofs.Encoded.{front-length, packet-length}
 use Rattle.map_given.specs.Given.{materialSlots, tracksGiven}
 use Rattle.map_writer.specs.Inside.{slotsSize, tracksSize, tracksBytes}
 use Rattle.map_given.specs.Faults.{faultOf}
-use Rattle.map_writer.specs.Write.{itemsOf, partsGiven, mapPacket, materialLength, tracksLength, mapAnswer, mapWrittenIn}
-use Rattle.map_writer.proofs.Laws.{slots-under}
+use Rattle.map_writer.specs.Write.{itemsOf, partsGiven, mapPacket, mapAnswer, mapWrittenIn}
 use Rattle.map_writer.proofs.Puts.{slots-length}
 use Rattle.map_writer.proofs.PutTracks.{tracks-length}
 use Rattle.map_given.proofs.Clean.{Clean, clean}
@@ -120,9 +119,6 @@ module _ (text ms ts : List ℕ) where
     unfolding packetLength
     packet-size = packet-long ∙ rw (material-size, tracks-size)
 
-    pub material-short : slotsSize (materialSlots ms) ≤ 65535
-    material-short = omega (arith, slots-under 6 ms 0 0x40)
-
     -- the bytes that the writer puts are the packet
     pub packet-runs : (l : List ℕ) (a b pad : ℕ) → a ≡ slotsSize (materialSlots ms) → b ≡ tracksSize (tracksGiven ts) → pad ≡ padding (22 + a + b)
         → sets
@@ -143,46 +139,20 @@ module _ (out : List ℕ) (at : ℕ) (text ms ts : List ℕ) where
   faulty n e h = rw (← e) (simp (ne-eqb n 0 h) (refl, refl))
 
   module _ (f : faultOf text ms ts ≡ 0) where
-    abbrev a : ℕ
-    a = slotsSize (materialSlots ms)
-
-    abbrev b : ℕ
-    b = tracksSize (tracksGiven ts)
+    abbrev used : ℕ
+    used = 22 + slotsSize (materialSlots ms) + tracksSize (tracksGiven ts)
 
     abbrev pub len : ℕ
-    len = 22 + a + b + padding (22 + a + b)
+    len = used + padding used
 
-    short : materialLength (partsGiven text ms ts) ≤ 65535
-    unfolding partsGiven
-    short = let g = clean text ms ts f in let h = material-size text ms ts g in let k = material-short text ms ts g in omega arith
+    answer-is : mapAnswer out at text ms ts ≡ ifRoom out at len
+    unfolding mapAnswer
+    answer-is = simp (f, packet-size text ms ts (clean text ms ts f))
 
-    long : tracksLength (partsGiven text ms ts) ≡ b
-    unfolding partsGiven tracksBytes
-    long = tracks-size text ms ts (clean text ms ts f)
+    pub no-room : ltb (length out - at) len ≡ true → (mapAnswer out at text ms ts ≡ refused 13) × (mapWrittenIn out at text ms ts ≡ out)
+    unfolding mapWrittenIn
+    no-room e = simp (answer-is, e) (refl, refl)
 
-    pub section-over : 65535 < b → (mapAnswer out at text ms ts ≡ refused 25) × (mapWrittenIn out at text ms ts ≡ out)
-    unfolding mapAnswer mapWrittenIn
-    section-over h =
-        simp (
-          f,
-          le-ltb 65535 (materialLength (partsGiven text ms ts)) short,
-          lt-ltb 65535 (tracksLength (partsGiven text ms ts)) (omega (arith, long)),
-        ) (refl, refl)
-
-    module _ (h : b ≤ 65535) where
-      answer-is : mapAnswer out at text ms ts ≡ ifRoom out at (length (mapPacket text ms ts))
-      unfolding mapAnswer
-      answer-is =
-          simp (f, le-ltb 65535 (materialLength (partsGiven text ms ts)) short, le-ltb 65535 (tracksLength (partsGiven text ms ts)) (omega (arith, long)))
-
-      pub no-room : ltb (length out - at) len ≡ true → (mapAnswer out at text ms ts ≡ refused 13) × (mapWrittenIn out at text ms ts ≡ out)
-      unfolding mapWrittenIn
-      no-room e = simp (answer-is, packet-size text ms ts (clean text ms ts f), e) (refl, refl)
-
-      pub wrote : ltb (length out - at) len ≡ false → (mapAnswer out at text ms ts ≡ Length len) × (mapWrittenIn out at text ms ts ≡ over out at (mapPacket text ms ts))
-      unfolding mapWrittenIn
-      wrote e =
-          let p = packet-size text ms ts (clean text ms ts f) in
-          let q : ltb (length out - at) (length (mapPacket text ms ts)) ≡ false = rw p e in
-          let w : mapAnswer out at text ms ts ≡ Length (length (mapPacket text ms ts)) = answer-is ∙ simp q in
-          (w ∙ ap Length p, rw w)
+    pub wrote : ltb (length out - at) len ≡ false → (mapAnswer out at text ms ts ≡ Length len) × (mapWrittenIn out at text ms ts ≡ over out at (mapPacket text ms ts))
+    unfolding mapWrittenIn
+    wrote e = simp (answer-is, e) (refl, refl)

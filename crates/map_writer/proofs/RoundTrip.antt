@@ -23,11 +23,13 @@ use Rattle.packet_writer.specs.Write.{refused}
 use Rattle.packet_writer.specs.declared.WriteAnswer.the-variants.{Length, Refused}
 use Rattle.packet_writer.proofs.Laws.{framed, header-before, header-stands}
 use Rattle.map_given.specs.Given.{tracksGiven}
-use Rattle.map_writer.specs.Write.{partsGiven, partsOfTrack, mapPacket, materialLength, tracksLength, mapAnswer, mapWrittenIn}
+use Rattle.map_writer.specs.Write.{partsGiven, partsOfTrack, mapPacket, mapAnswer, mapWrittenIn}
+use Rattle.map_writer.specs.Inside.{tracksBytes}
 use Rattle.map_writer.specs.ReadBack.{ReadBack}
 use Rattle.map_given.specs.Faults.{faultOf}
 use Rattle.map_given.proofs.Clean.{Clean, clean}
-use Rattle.map_writer.proofs.Packet.{material-size, material-short}
+use Rattle.map_writer.proofs.Packet.{material-size, tracks-size}
+use Rattle.map_writer.proofs.Bounds.{material-most, section-most}
 use Rattle.map_writer.proofs.ViewGiven.{parts-view-given}
 use Rattle.map_writer.proofs.Judged.{parts-good}
 use contract.Lifetimes.{Lfts}
@@ -40,58 +42,50 @@ use Rattle.map_writer.proofs.write.Reads as reads
 length-of-header : (m : List ℕ) → headerAt m 0 ≡ Whole (record { «packet_type» = 0xBC; len = length m }) → 16 ≤ length m
 length-of-header m h = whole m 0 (record { «packet_type» = 0xBC; len = length m }) h .least
 
--- a length was answered: there was no fault, the sections fit, and there was room
+-- a length was answered: there was no fault, and there was room
 pub record Answered (out : List ℕ) (at : ℕ) (text ms ts : List ℕ) (n : ℕ) : Type 0 where
   pub none : faultOf text ms ts ≡ 0
-  pub short : tracksLength (partsGiven text ms ts) ≤ 65535
   pub lens : n ≡ length (mapPacket text ms ts)
   pub room : length (mapPacket text ms ts) ≤ length out - at
 
 module _ (out : List ℕ) (at : ℕ) (text ms ts : List ℕ) (n : ℕ) where
   pub answered : mapAnswer out at text ms ts ≡ Length n → Answered out at text ms ts n
   unfolding mapAnswer
-  answered = go (eqb (faultOf text ms ts) 0) refl (ltb 65535 (materialLength (partsGiven text ms ts))) (ltb 65535 (tracksLength (partsGiven text ms ts))) refl (ltb (length out - at) (length (mapPacket text ms ts))) refl
+  answered = go (eqb (faultOf text ms ts) 0) refl (ltb (length out - at) (length (mapPacket text ms ts))) refl
     where
-      go : (a : Bool) → eqb (faultOf text ms ts) 0 ≡ a → (b c : Bool) → ltb 65535 (tracksLength (partsGiven text ms ts)) ≡ c → (d : Bool) → ltb (length out - at) (length (mapPacket text ms ts)) ≡ d
-          → pick a (pick (pick b true c) (refused 25) (pick d (refused 13) (Length (length (mapPacket text ms ts))))) (refused (faultOf text ms ts)) ≡ Length n → Answered out at text ms ts n
-      go true p false false q false r e =
+      go : (a : Bool) → eqb (faultOf text ms ts) 0 ≡ a → (d : Bool) → ltb (length out - at) (length (mapPacket text ms ts)) ≡ d
+          → pick a (pick d (refused 13) (Length (length (mapPacket text ms ts)))) (refused (faultOf text ms ts)) ≡ Length n → Answered out at text ms ts n
+      go true p false r e =
           let l : n ≡ length (mapPacket text ms ts) = cc in
-          record { none = eqb-true (faultOf text ms ts) 0 p; short = omega (arith, ltb-false); lens = l; room = omega (arith, ltb-false) }
-      go true p true c q d r e = absurd (let z : _≡_ {A = ℕ} 0 1 = cc in omega arith)
-      go true p false true q d r e = absurd (let z : _≡_ {A = ℕ} 0 1 = cc in omega arith)
-      go true p false false q true r e = absurd (let z : _≡_ {A = ℕ} 0 1 = cc in omega arith)
-      go false p b c q d r e = absurd (let z : _≡_ {A = ℕ} 0 1 = cc in omega arith)
-
-  material-fits : Clean text ms ts → materialLength (partsGiven text ms ts) ≤ 65535
-  unfolding partsGiven
-  material-fits c = let a = material-size text ms ts c in let b = material-short text ms ts c in omega arith
+          record { none = eqb-true (faultOf text ms ts) 0 p; lens = l; room = omega (arith, ltb-false) }
+      go true p true r e = absurd (let z : _≡_ {A = ℕ} 0 1 = cc in omega arith)
+      go false p d r e = absurd (let z : _≡_ {A = ℕ} 0 1 = cc in omega arith)
 
   -- the packet's parts fit their length words
-  fit : Clean text ms ts → tracksLength (partsGiven text ms ts) ≤ 65535 → Fit (partsGiven text ms ts)
-  unfolding partsGiven
-  fit c h =
+  fit : Clean text ms ts → Fit (partsGiven text ms ts)
+  unfolding partsGiven tracksBytes
+  fit c =
       let ds = map described (map (partsOfTrack text) (tracksGiven ts)) in
+      let t = tracks-size text ms ts c in
+      let b = section-most text ms ts c in
       record {
         four = refl;
-        material = let a = material-fits c in omega arith;
+        material = omega (arith, material-size text ms ts c, material-most ms);
         tracks = omega arith;
         each = split.sized ds (omega (arith, split.length-bytes ds));
       }
 
-  -- the other way: an input without fault, whose track section fits its length word, is written wherever there is room for it
-  pub accepted : faultOf text ms ts ≡ 0 → tracksLength (partsGiven text ms ts) ≤ 65535 → at + length (mapPacket text ms ts) ≤ length out → mapAnswer out at text ms ts ≡ Length (length (mapPacket text ms ts))
+  -- the other way: an input without fault is written wherever there is room for it
+  pub accepted : faultOf text ms ts ≡ 0 → at + length (mapPacket text ms ts) ≤ length out → mapAnswer out at text ms ts ≡ Length (length (mapPacket text ms ts))
   unfolding mapAnswer
-  accepted e t h =
-      let c = clean text ms ts e in
-      let m : materialLength (partsGiven text ms ts) ≤ 65535 = material-fits c in
-      simp (e, le-ltb 65535 (materialLength (partsGiven text ms ts)) m, le-ltb 65535 (tracksLength (partsGiven text ms ts)) t, le-ltb (length out - at) (length (mapPacket text ms ts)) (omega arith))
+  accepted e h = simp (e, le-ltb (length out - at) (length (mapPacket text ms ts)) (omega arith))
 
   pub round-trip : mapAnswer out at text ms ts ≡ Length n → ReadBack out at text ms ts n (mapWrittenIn out at text ms ts)
   unfolding mapWrittenIn mapPacket
   round-trip e =
       let a = answered e in
       let c = clean text ms ts (a .none) in
-      let f = fit c (a .short) in
+      let f = fit c in
       let p = encode (partsGiven text ms ts) in
       let h = header-of-encoded (partsGiven text ms ts) f in
       let v = good-encoded (partsGiven text ms ts) f (parts-good text ms ts c) in

@@ -29,7 +29,3 @@ tracksSize (t ∷ ts) = 4 + slotsSize (t .slots) + tracksSize ts
 -- tracks as their bytes
 unfoldable pub tracksBytes : List ℕ → List Given → List ℕ
 tracksBytes text ts = tracks.descriptionsBytes (map described (map (partsOfTrack text) ts))
-
--- 65,536 stands for every size that no section can have
-unfoldable pub capped : ℕ → ℕ
-capped n = pick (ltb 65535 n) 65536 n

@@ -1,4 +1,5 @@
 pub mod Inside
+pub mod Largest
 pub mod Meaning
 pub mod ReadBack
 pub mod Readers

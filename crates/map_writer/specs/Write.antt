@@ -1,14 +1,12 @@
 -- Writing a map (RDD 14, clause 7.1, Tables 3 to 6; 01, "Writers"): the packet, the answer, and what the buffer then holds.
 use Prim.Native.Nat.{ℕ, _+_}
 use mathlib.Core.List.{List, [], _∷_, _++_, map}
-use mathlib.Core.Bool.{Bool, true}
 use lib.ListN.{length}
-use lib.Dec.{ltb, eqb}
+use lib.Dec.{eqb}
 use Rattle.plate.specs.Choice.{pick}
 use Rattle.number.specs.Number.{beBytes}
-use Rattle.map_items.specs.Items.{Item, itemsBytes}
-use Rattle.map_tracks.specs.Tracks as tracks
-use Rattle.map.specs.Encode.{TrackParts, MapParts, described, encode}
+use Rattle.map_items.specs.Items.{Item}
+use Rattle.map.specs.Encode.{TrackParts, MapParts, encode}
 use Rattle.packet_writer.specs.Write.{refused, ifRoom, bufferAfter}
 use Rattle.packet_writer.specs.declared.WriteAnswer.{WriteAnswer}
 use Rattle.map_given.specs.Given.{materialSlots, Given, tracksGiven}
@@ -41,23 +39,9 @@ partsGiven text ms ts =
 unfoldable pub mapPacket : List ℕ → List ℕ → List ℕ → List ℕ
 mapPacket text ms ts = encode (partsGiven text ms ts)
 
--- the lengths of the two sections
-abbrev pub materialLength : MapParts → ℕ
-materialLength p = length (itemsBytes (p .material))
-
-abbrev pub tracksLength : MapParts → ℕ
-tracksLength p = length (tracks.descriptionsBytes (map described (p .tracks)))
-
--- 25: a section over 65,535 bytes; no input without another fault has one (docs/DECISIONS.md, F22)
-abbrev pub tooLong : ℕ → ℕ → Bool
-tooLong m t = pick (ltb 65535 m) true (ltb 65535 t)
-
--- 24, 11, 10; then 25; then 13; else the packet's length
+-- 24, 11, 10; then 13; else the packet's length
 unfoldable pub mapAnswer : List ℕ → ℕ → List ℕ → List ℕ → List ℕ → WriteAnswer
-mapAnswer out at text ms ts =
-    pick (eqb (faultOf text ms ts) 0)
-    (pick (tooLong (materialLength (partsGiven text ms ts)) (tracksLength (partsGiven text ms ts))) (refused 25) (ifRoom out at (length (mapPacket text ms ts))))
-    (refused (faultOf text ms ts))
+mapAnswer out at text ms ts = pick (eqb (faultOf text ms ts) 0) (ifRoom out at (length (mapPacket text ms ts))) (refused (faultOf text ms ts))
 
 -- what the buffer then holds
 unfoldable pub mapWrittenIn : List ℕ → ℕ → List ℕ → List ℕ → List ℕ → List ℕ

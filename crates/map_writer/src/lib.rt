@@ -16,7 +16,7 @@ ghost use Rattle.map_items.specs.Items.{itemsBytes};
 ghost use Rattle.map_tracks.specs.Tracks as tracks;
 ghost use Rattle.map.specs.Encode.{padding, front};
 ghost use Rattle.map_given.specs.Given.{slotAt, slots, materialSlots, trackAt, tracksFrom, tracksGiven};
-ghost use Rattle.map_writer.specs.Inside.{slotSize, slotsSize, tracksSize, capped, tracksBytes};
+ghost use Rattle.map_writer.specs.Inside.{slotSize, slotsSize, tracksSize, tracksBytes};
 ghost use Rattle.map_given.specs.Faults.{fits, slotFault, slotsFault, tracksFault, idsFault, faultOf};
 ghost use Rattle.map_writer.specs.Write.{itemsOf, mapPacket, mapAnswer, mapWrittenIn};
 
@@ -57,18 +57,16 @@ fn slots_size(ws: &[u64], at: usize, tag: u8, n: usize) -> usize
     total
 }
 
-// The bytes that the tracks take, or 65,536 for more than any section has.
+// The bytes that the tracks take.
 fn tracks_size(ts: &[u64]) -> usize
-    ensures { λ r. ⌜ r ≡ capped (tracksSize (tracksGiven (now (ts .entry)))) ⌝ }
+    requires { ⌜ tracksSize (tracksGiven (now ts)) ≤ 34688 ⌝ }
+    ensures { λ r. ⌜ r ≡ tracksSize (tracksGiven (now (ts .entry))) ⌝ }
 {
     let mut total: usize = 0;
     let mut at: usize = 0;
     let mut left = ts.len() / map_given::TRACK_WORDS;
     while 0 < left {
         total += 4 + slots_size(ts, at + map_given::NAME, 0x4C, 7);
-        if 65535 < total {
-            return 65536;
-        }
         at += map_given::TRACK_WORDS;
         left -= 1;
     }
@@ -222,7 +220,7 @@ fn put_front(out: &mut [u8], len: usize)
 
 // Writes the packet at the start of the buffer; m and t are the lengths of its sections.
 fn put_packet(out: &mut [u8], text: &[u8], material: &[u64], tracks: &[u64], m: usize, t: usize)
-    requires { ⌜ (22 + m + t + padding (22 + m + t) ≤ length (now out)) × (m ≤ 65535) × (t ≤ 65535) × (m ≡ slotsSize (materialSlots (now material))) × (t ≡ tracksSize (tracksGiven (now tracks))) × (faultOf (now text) (now material) (now tracks) ≡ 0) ⌝ }
+    requires { ⌜ (22 + m + t + padding (22 + m + t) ≤ length (now out)) × (m ≡ slotsSize (materialSlots (now material))) × (t ≡ tracksSize (tracksGiven (now tracks))) × (faultOf (now text) (now material) (now tracks) ≡ 0) ⌝ }
     ensures { λ _. ⌜ now (out .exit) ≡ sets (now (out .entry)) 0 (mapPacket (now (text .entry)) (now (material .entry)) (now (tracks .entry))) ⌝ }
 {
     let used = 22 + m + t;
@@ -235,7 +233,7 @@ fn put_packet(out: &mut [u8], text: &[u8], material: &[u64], tracks: &[u64], m: 
     put_zeros(out, used, pad);
 }
 
-// Writes a map packet at a place of the buffer: refusals 24, 11, 10, 25 and 13, in this order.
+// Writes a map packet at a place of the buffer: refusals 24, 11, 10 and 13, in this order.
 // The material is a record of MATERIAL_WORDS words, the tracks are records of TRACK_WORDS words each; texts and 4D are parts of the lent text.
 pub fn write(
     out: &mut [u8],
@@ -252,9 +250,6 @@ pub fn write(
     }
     let m = slots_size(material, 0, 0x40, 6);
     let t = tracks_size(tracks);
-    if 65535 < t {
-        return WriteAnswer::Refused(plate::refuse(plate::SECTION_LENGTH, 0));
-    }
     let used = 22 + m + t;
     let len = used + padding_of(used);
     if packet_writer::lacks_room(out.len(), at, len) {

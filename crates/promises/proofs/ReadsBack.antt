@@ -7,6 +7,7 @@ use Rattle.packet_writer.specs.declared.WriteAnswer.the-variants as write
 use Rattle.map_writer.specs.Readers as map
 use Rattle.map_writer.proofs.RoundTrip as map-trip
 use Rattle.map_writer.proofs.Readers.{write-then-read}
+use Rattle.map_writer.proofs.Largest.{largest}
 use Rattle.locator_writer.proofs.RoundTrip as locator-trip
 use Rattle.locator_writer.proofs.Laws.{wrote}
 use Rattle.locator_writer.proofs.Readers.{readers}
@@ -28,6 +29,9 @@ reads-back =
       map-readers = map-read;
       locator = λ out at step ns n o g. let e = locator-written-is out at step ns _ o g in rw (e .1) (locator-trip.round-trip out at step ns n (sym (e .0)));
       locator-readers = λ out at step ns n o g. let e = locator-written-is out at step ns _ o g in rw (e .1) (readers out at step ns n _ (locator-trip.round-trip out at step ns n (sym (e .0))));
-      map-writes = λ out at text ms ts e t h x o g. map-written-is out at text ms ts x o g .0 ∙ map-trip.accepted out at text ms ts 0 e t h;
+      map-writes = λ out at text ms ts e h x o g. map-written-is out at text ms ts x o g .0 ∙ map-trip.accepted out at text ms ts 0 e h;
+      largest = largest;
+      map-room = λ out at text ms ts h r o g. largest .never-13 out at text ms ts r h (sym (map-written-is out at text ms ts _ o g .0));
+      map-numbers = λ out at text ms ts r o g. largest .numbers out at text ms ts r (sym (map-written-is out at text ms ts _ o g .0)) .0;
       locator-writes = λ out at step ns m h x o g. locator-written-is out at step ns x o g .0 ∙ wrote out at step ns m h .0;
     }

@@ -4,12 +4,15 @@
 use Prim.Native.Nat.{ℕ, _+_, _*_, _≤_}
 use mathlib.Core.Path.{_≡_}
 use mathlib.Core.Bool.{true}
-use mathlib.Core.List.{List}
+use mathlib.Core.List.{List, [], _∷_}
 use lib.ListN.{length}
+use Rattle.plate.specs.declared.Refusal.{Refusal}
+use Rattle.map_items.specs.Judge.{has}
 use Rattle.packet_writer.specs.declared.WriteAnswer.{WriteAnswer}
 use Rattle.packet_writer.specs.declared.WriteAnswer.the-variants as write
 use Rattle.map_given.specs.Faults.{faultOf}
-use Rattle.map_writer.specs.Write.{partsGiven, mapPacket, tracksLength}
+use Rattle.map_writer.specs.Write.{mapPacket}
+use Rattle.map_writer.specs.Largest.{Largest}
 use Rattle.locator_writer.specs.Write.{mayWrite}
 use Rattle.map_writer.specs.ReadBack as map
 use Rattle.map_writer.specs.Readers as map-readers
@@ -24,8 +27,14 @@ pub record ReadsBack : Type 0 where
   -- a field locator table, from its step and its entries
   pub locator : (out : List ℕ) (at step : ℕ) (ns : List ℕ) (n : ℕ) (o : List ℕ) → WritesLocator out at step ns (write.Length n) o → locator.ReadBack out at step ns n o
   pub locator-readers : (out : List ℕ) (at step : ℕ) (ns : List ℕ) (n : ℕ) (o : List ℕ) → WritesLocator out at step ns (write.Length n) o → locator-readers.Readers o at step ns
-  -- and what may be written is written, wherever there is room for it: an input without fault (a map's track section must fit its length word)
-  pub map-writes : (out : List ℕ) (at : ℕ) (text ms ts : List ℕ) → faultOf text ms ts ≡ 0 → tracksLength (partsGiven text ms ts) ≤ 65535 → at + length (mapPacket text ms ts) ≤ length out
+  -- and what may be written is written, wherever there is room for it: an input without fault
+  pub map-writes : (out : List ℕ) (at : ℕ) (text ms ts : List ℕ) → faultOf text ms ts ≡ 0 → at + length (mapPacket text ms ts) ≤ length out
       → (x : WriteAnswer) (o : List ℕ) → WritesMap out at text ms ts x o → x ≡ write.Length (length (mapPacket text ms ts))
   pub locator-writes : (out : List ℕ) (at step : ℕ) (ns : List ℕ) → mayWrite step ns ≡ true → at + (24 + 4 * length ns) ≤ length out
       → (x : WriteAnswer) (o : List ℕ) → WritesLocator out at step ns x o → x ≡ write.Length (24 + 4 * length ns)
+  -- how long a map can be: the bounds, and a map that reaches them
+  pub largest : Largest
+  -- 35,000 bytes from the place on are room enough for every map: no call is refused with 13 there
+  pub map-room : (out : List ℕ) (at : ℕ) (text ms ts : List ℕ) → at + 35000 ≤ length out → (r : Refusal) (o : List ℕ) → WritesMap out at text ms ts (write.Refused r) o → r .number ≡ 13 → ⊥
+  -- and a refusal is 24, 11, 10 or 13
+  pub map-numbers : (out : List ℕ) (at : ℕ) (text ms ts : List ℕ) (r : Refusal) (o : List ℕ) → WritesMap out at text ms ts (write.Refused r) o → has (r .number) (24 ∷ 11 ∷ 10 ∷ 13 ∷ []) ≡ true

@@ -28,8 +28,8 @@ put-be-requires c κs = search needs
 put-slots-requires : tie.Need-put-slots-requires
 put-slots-requires c κs =
     let p = c .before .before .before .before .before .before .before .before .before .before .before .before .before .before .pre in
-    let g = clean _ _ _ (p .5) in
-    let e = p .3 in
+    let g = clean _ _ _ (p .3) in
+    let e = p .1 in
     (omega (arith, g .words), omega arith, omega (arith, p .0, c .before .before .before .put-be .kept .0, c .before .before .before .before .before .before .before .put-front .kept .0), g .material)
 
 add-put-be : tie.Need-add-put-be
@@ -44,8 +44,8 @@ add-put-tracks c = search needs
 put-tracks-requires : tie.Need-put-tracks-requires
 put-tracks-requires c κs =
     let p = c .before .before .before .before .before .before .before .before .before .before .before .before .before .before .before .before .before .before .before .before .before .before .pre in
-    let g = clean _ _ _ (p .5) in
-    let e = p .4 in
+    let g = clean _ _ _ (p .3) in
+    let e = p .2 in
     (omega (arith, p .0, c .before .before .before .put-be2 .kept .0, c .before .before .before .before .before .before .before .put-slots .kept .0, c .before .before .before .before .before .before .before .before .before .before .before .put-be .kept .0, c .before .before .before .before .before .before .before .before .before .before .before .before .before .before .before .put-front .kept .0), g .tracks, g .ids)
 
 put-zeros-requires : tie.Need-put-zeros-requires
@@ -60,7 +60,7 @@ returns c =
     let p = c .before .before .before .before .before .before .before .before .before .before .before .before .before .before .before .before .before .before .before .before .before .before .before .before .before .before .before .before .before .pre in
     c .before .before .put-zeros .ensures
     ∙ rw (c .before .before .before .before .before .before .put-tracks .ensures, c .before .before .before .before .before .before .before .before .before .before .put-be2 .ensures, c .before .before .before .before .before .before .before .before .before .before .before .before .before .before .put-slots .ensures, c .before .before .before .before .before .before .before .before .before .before .before .before .before .before .before .before .before .before .put-be .ensures, c .before .before .before .before .before .before .before .before .before .before .before .before .before .before .before .before .before .before .before .before .before .before .put-front .ensures)
-    (packet-runs (a .text .now) (a .material .now) (a .tracks .now) (clean _ _ _ (p .5)) (a .out .now) (a .m) (a .t) _ (p .3) (p .4) (c .before .before .before .before .before .before .before .before .before .before .before .before .before .before .before .before .before .before .before .before .before .before .before .before .padding-of .ensures))
+    (packet-runs (a .text .now) (a .material .now) (a .tracks .now) (clean _ _ _ (p .3)) (a .out .now) (a .m) (a .t) _ (p .1) (p .2) (c .before .before .before .before .before .before .before .before .before .before .before .before .before .before .before .before .before .before .before .before .before .before .before .before .padding-of .ensures))
 
 pub put-packet-spec : {M : Type 1} → statement M
 put-packet-spec =

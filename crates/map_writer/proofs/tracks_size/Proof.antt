@@ -6,18 +6,18 @@ use native.Mathlib.Omega.{arith}
 use mathlib.Core.Path.{_≡_, sym, _∙_}
 use Prim.Native.Nat.{_+_, _*_, _≤_}
 use lib.ListN.{length}
-use Rattle.map_writer.proofs.Laws.{slots-under, tracks-size-turn, tracks-size-out, cap-over, cap-within}
+use Rattle.map_writer.proofs.Laws.{tracks-size-turn, tracks-size-out}
 use Rattle.map_writer.specs.Inside.{tracksSize}
 use Rattle.map_given.specs.Given.{tracksFrom, tracksGiven}
 
 abbrev Inv-loop : tie.InvT-loop
-Inv-loop ts total₀ at₀ left₀ total at left = (at + 23 * left ≤ length ts) × (total ≤ 65535) × (tracksSize (tracksGiven ts) ≡ total + tracksSize (tracksFrom left ts at))
+Inv-loop ts total₀ at₀ left₀ total at left = (at + 23 * left ≤ length ts) × (tracksSize (tracksGiven ts) ≡ total + tracksSize (tracksFrom left ts at))
 
 abbrev μ-loop : tie.MeasureT-loop
 μ-loop ts total₀ at₀ left₀ total at left = left
 
 loop-holds : tie.Need-loop-holds Inv-loop μ-loop
-loop-holds c = (omega arith, omega arith, omega arith)
+loop-holds c = (omega arith, omega arith)
 
 add-slots-size : tie.Need-add-slots-size Inv-loop μ-loop
 add-slots-size c = search needs
@@ -26,15 +26,10 @@ slots-size-requires : tie.Need-slots-size-requires Inv-loop μ-loop
 slots-size-requires c κs = search needs
 
 add-total : tie.Need-add-total Inv-loop μ-loop
-add-total c = let l = c .before .before .loop in let a = c .before .before .before .before .args in omega (arith, slots-under 7 (a .ts .now) (l .at + 2) 0x4C, c .slots-size .ensures)
+add-total c = let l = c .before .before .loop in let a = c .before .before .before .before .args in omega (arith, c .before .before .before .before .pre, tracks-size-turn (a .ts .now) (l .left) (l .at) (c .before .loop-test .taken), l .inv .1, c .slots-size .ensures)
 
 add-total-2 : tie.Need-add-total-2 Inv-loop μ-loop
-add-total-2 c = let l = c .before .before .loop in let a = c .before .before .before .before .args in omega (arith, l .inv .1, slots-under 7 (a .ts .now) (l .at + 2) 0x4C, c .slots-size .ensures)
-
-returns : tie.Need-returns Inv-loop μ-loop
-returns c =
-    let l = c .before .before .before .loop in let a = c .before .before .before .before .before .args in
-    sym (cap-over (tracksSize (tracksGiven (a .ts .now))) (omega (arith, tracks-size-turn (a .ts .now) (l .left) (l .at) (c .before .before .loop-test .taken), l .inv .2, c .before .slots-size .ensures)))
+add-total-2 c = let l = c .before .before .loop in let a = c .before .before .before .before .args in omega (arith, c .before .before .before .before .pre, tracks-size-turn (a .ts .now) (l .left) (l .at) (c .before .loop-test .taken), l .inv .1, c .slots-size .ensures)
 
 add-at : tie.Need-add-at Inv-loop μ-loop
 add-at c = search needs
@@ -47,14 +42,13 @@ loop-less c = search needs
 
 loop-again : tie.Need-loop-again Inv-loop μ-loop
 loop-again c =
-    let l = c .before .before .before .loop in let a = c .before .before .before .before .before .args in
-    (omega arith, omega arith, omega (arith, tracks-size-turn (a .ts .now) (l .left) (l .at) (c .before .before .loop-test .taken), l .inv .2, c .before .slots-size .ensures))
+    let l = c .before .before .loop in let a = c .before .before .before .before .args in
+    (omega arith, omega (arith, tracks-size-turn (a .ts .now) (l .left) (l .at) (c .before .loop-test .taken), l .inv .1, c .slots-size .ensures))
 
-returns-2 : tie.Need-returns-2 Inv-loop μ-loop
-returns-2 c =
+returns : tie.Need-returns Inv-loop μ-loop
+returns c =
     let l = c .before .loop in let a = c .before .before .before .args in
-    let o = tracks-size-out (a .ts .now) (l .left) (l .at) (c .loop-test .left) in
-    sym (cap-within (tracksSize (tracksGiven (a .ts .now))) (omega (arith, l .inv .2, l .inv .1)) ∙ omega (arith, l .inv .2))
+    omega (arith, tracks-size-out (a .ts .now) (l .left) (l .at) (c .loop-test .left), l .inv .1)
 
 pub tracks-size-spec : {M : Type 1} → statement M
 tracks-size-spec =
@@ -67,9 +61,8 @@ tracks-size-spec =
     slots-size-requires
     add-total
     add-total-2
-    returns
     add-at
     sub-left
     loop-less
     loop-again
-    returns-2)
+    returns)

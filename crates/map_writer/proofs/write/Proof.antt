@@ -13,9 +13,9 @@ use Rattle.map.proofs.Encoded.{padding-under}
 use Rattle.map_given.specs.Given.{materialSlots, tracksGiven}
 use Rattle.map_writer.specs.Inside.{slotsSize, tracksSize}
 use Rattle.map_writer.specs.Write.{mapPacket}
-use Rattle.map_writer.proofs.Laws.{slots-under, cap-under, cap-is}
+use Rattle.map_writer.proofs.Bounds.{material-most, section-most}
 use Rattle.map_given.proofs.Clean.{clean}
-use Rattle.map_writer.proofs.Packet.{packet-size, faulty, section-over, no-room, wrote}
+use Rattle.map_writer.proofs.Packet.{packet-size, faulty, len, no-room, wrote}
 
 fault-requires : tie.Need-fault-requires
 fault-requires c κs = search needs
@@ -33,80 +33,63 @@ slots-size-requires : tie.Need-slots-size-requires
 slots-size-requires c κs = let g = clean _ _ _ (sym (c .before .fault .ensures) ∙ c .if1 .left) in (omega (arith, g .words), omega arith)
 
 tracks-size-requires : tie.Need-tracks-size-requires
-tracks-size-requires c κs = search needs
-
-refuse-requires-2 : tie.Need-refuse-requires-2
-refuse-requires-2 c κs = search needs
-
-returns-2 : tie.Need-returns-2
-returns-2 c =
-    let a = c .before .before .before .before .before .before .before .before .before .before .args in
-    let f = sym (c .before .before .before .before .before .fault .ensures) ∙ c .before .before .before .before .if1 .left in
-    let w = section-over (a .out .now) (a .at) (a .text .now) (a .material .now) (a .tracks .now) f (cap-under _ _ (c .before .before .tracks-size .ensures) (c .before .if2 .taken)) in
-    (ap Refused (c .refuse2 .ensures) ∙ sym (w .0), sym (w .1))
+tracks-size-requires c κs = section-most _ _ _ (clean _ _ _ (sym (c .before .before .fault .ensures) ∙ c .before .if1 .left))
 
 add-used : tie.Need-add-used
-add-used c = let a = c .before .before .before .before .before .before .before .before .before .args in omega (arith, c .before .before .slots-size .ensures, slots-under 6 (a .material .now) 0 0x40)
+add-used c = omega (arith, c .before .slots-size .ensures, material-most (c .before .before .before .before .before .before .before .before .args .material .now))
 
 add-used-2 : tie.Need-add-used-2
-add-used-2 c = let a = c .before .before .before .before .before .before .before .before .before .args in omega (arith, c .before .before .slots-size .ensures, slots-under 6 (a .material .now) 0 0x40, c .if2 .left)
+add-used-2 c =
+    let g = section-most _ _ _ (clean _ _ _ (sym (c .before .before .before .fault .ensures) ∙ c .before .before .if1 .left)) in
+    omega (arith, c .before .slots-size .ensures, material-most (c .before .before .before .before .before .before .before .before .args .material .now), c .tracks-size .ensures)
 
 padding-of-requires : tie.Need-padding-of-requires
 padding-of-requires c κs = search needs
 
 add-len : tie.Need-add-len
 add-len c =
-    let a = c .before .before .before .before .before .before .before .before .before .before .args in
-    omega (arith, c .before .before .before .slots-size .ensures, slots-under 6 (a .material .now) 0 0x40, c .before .if2 .left, c .padding-of .ensures, padding-under (22 + c .before .before .before .slots-size .result + c .before .before .tracks-size .result))
+    let g = section-most _ _ _ (clean _ _ _ (sym (c .before .before .before .before .fault .ensures) ∙ c .before .before .before .if1 .left)) in
+    omega (arith, c .before .before .slots-size .ensures, material-most (c .before .before .before .before .before .before .before .before .before .args .material .now), c .before .tracks-size .ensures, c .padding-of .ensures, padding-under (22 + c .before .before .slots-size .result + c .before .tracks-size .result))
 
 lacks-room-requires : tie.Need-lacks-room-requires
 lacks-room-requires c κs = search needs
 
-refuse-requires-3 : tie.Need-refuse-requires-3
-refuse-requires-3 c κs = search needs
+refuse-requires-2 : tie.Need-refuse-requires-2
+refuse-requires-2 c κs = search needs
 
-returns-3 : tie.Need-returns-3
-returns-3 c =
-    let a = c .before .before .before .before .before .before .before .before .before .before .before .before .before .args in
-    let f = sym (c .before .before .before .before .before .before .before .before .fault .ensures) ∙ c .before .before .before .before .before .before .before .if1 .left in
-    let t = cap-is _ _ (c .before .before .before .before .before .tracks-size .ensures) (c .before .before .before .before .if2 .left) in
-    let e = rw (c .before .before .before .padding-of .ensures, c .before .before .before .before .before .before .slots-size .ensures, t) at (sym (c .before .before .lacks-room .ensures) ∙ c .before .if3 .taken) in
-    let w = no-room (a .out .now) (a .at) (a .text .now) (a .material .now) (a .tracks .now) f (omega (arith, c .before .before .before .before .if2 .left, t)) e in
-    (ap Refused (c .refuse3 .ensures) ∙ sym (w .0), sym (w .1))
+returns-2 : tie.Need-returns-2
+returns-2 c =
+    let a = c .before .before .before .before .before .before .before .before .before .before .before .before .args in
+    let e = rw (c .before .before .before .padding-of .ensures, c .before .before .before .before .before .slots-size .ensures, c .before .before .before .before .tracks-size .ensures) at (sym (c .before .before .lacks-room .ensures) ∙ c .before .if2 .taken) in
+    let w = no-room (a .out .now) (a .at) (a .text .now) (a .material .now) (a .tracks .now) (sym (c .before .before .before .before .before .before .before .fault .ensures) ∙ c .before .before .before .before .before .before .if1 .left) e in
+    (ap Refused (c .refuse2 .ensures) ∙ sym (w .0), sym (w .1))
 
 sub-put-packet : tie.Need-sub-put-packet
-sub-put-packet c =
-    let h = has-room _ _ (22 + c .before .before .before .before .before .slots-size .result + c .before .before .before .before .tracks-size .result + c .before .before .padding-of .result) (sym (c .before .lacks-room .ensures) ∙ c .if3 .left) in
-    omega arith
+sub-put-packet c = let h = has-room _ _ (22 + c .before .before .before .before .slots-size .result + c .before .before .before .tracks-size .result + c .before .before .padding-of .result) (sym (c .before .lacks-room .ensures) ∙ c .if2 .left) in omega arith
 
 part-put-packet-start : tie.Need-part-put-packet-start
-part-put-packet-start c =
-    let h = has-room _ _ (22 + c .before .before .before .before .before .slots-size .result + c .before .before .before .before .tracks-size .result + c .before .before .padding-of .result) (sym (c .before .lacks-room .ensures) ∙ c .if3 .left) in
-    omega arith
+part-put-packet-start c = let h = has-room _ _ (22 + c .before .before .before .before .slots-size .result + c .before .before .before .tracks-size .result + c .before .before .padding-of .result) (sym (c .before .lacks-room .ensures) ∙ c .if2 .left) in omega arith
 
 part-put-packet-end : tie.Need-part-put-packet-end
 part-put-packet-end c = search needs
 
 put-packet-requires : tie.Need-put-packet-requires
 put-packet-requires c κs =
-    let a = c .before .before .before .before .before .before .before .before .before .before .before .before .before .args in
-    let h = has-room (length (a .out .now)) (a .at) (22 + c .before .before .before .before .before .before .slots-size .result + c .before .before .before .before .before .tracks-size .result + c .before .before .before .padding-of .result) (sym (c .before .before .lacks-room .ensures) ∙ c .before .if3 .left) in
-    let t = cap-is _ _ (c .before .before .before .before .before .tracks-size .ensures) (c .before .before .before .before .if2 .left) in
-    (rw (← c .before .before .before .padding-of .ensures) (simp (length-take, length-drop) (omega arith)), omega (arith, c .before .before .before .before .before .before .slots-size .ensures, slots-under 6 (a .material .now) 0 0x40), c .before .before .before .before .if2 .left, c .before .before .before .before .before .before .slots-size .ensures, t, sym (c .before .before .before .before .before .before .before .before .fault .ensures) ∙ c .before .before .before .before .before .before .before .if1 .left)
+    let h = has-room _ _ (22 + c .before .before .before .before .before .slots-size .result + c .before .before .before .before .tracks-size .result + c .before .before .before .padding-of .result) (sym (c .before .before .lacks-room .ensures) ∙ c .before .if2 .left) in
+    (rw (← c .before .before .before .padding-of .ensures) (simp (length-take, length-drop) (omega arith)), c .before .before .before .before .before .slots-size .ensures, c .before .before .before .before .tracks-size .ensures, sym (c .before .before .before .before .before .before .before .fault .ensures) ∙ c .before .before .before .before .before .before .if1 .left)
 
 same-length : tie.Need-same-length
 same-length c = search needs
 
-returns-4 : tie.Need-returns-4
-returns-4 c =
-    let a = c .before .before .before .before .before .before .before .before .before .before .before .before .before .before .before .before .args in
-    let f = sym (c .before .before .before .before .before .before .before .before .before .before .before .fault .ensures) ∙ c .before .before .before .before .before .before .before .before .before .before .if1 .left in
-    let t = cap-is _ _ (c .before .before .before .before .before .before .before .before .tracks-size .ensures) (c .before .before .before .before .before .before .before .if2 .left) in
-    let q : 22 + c .before .before .before .before .before .before .before .before .before .slots-size .result + c .before .before .before .before .before .before .before .before .tracks-size .result + c .before .before .before .before .before .before .padding-of .result ≡ 22 + slotsSize (materialSlots (a .material .now)) + tracksSize (tracksGiven (a .tracks .now)) + padding (22 + slotsSize (materialSlots (a .material .now)) + tracksSize (tracksGiven (a .tracks .now))) = rw (c .before .before .before .before .before .before .padding-of .ensures, c .before .before .before .before .before .before .before .before .before .slots-size .ensures, t) in
-    let e = sym (c .before .before .before .before .before .lacks-room .ensures) ∙ c .before .before .before .before .if3 .left in
+returns-3 : tie.Need-returns-3
+returns-3 c =
+    let a = c .before .before .before .before .before .before .before .before .before .before .before .before .before .before .before .args in
+    let f = sym (c .before .before .before .before .before .before .before .before .before .before .fault .ensures) ∙ c .before .before .before .before .before .before .before .before .before .if1 .left in
+    let q : 22 + c .before .before .before .before .before .before .before .before .slots-size .result + c .before .before .before .before .before .before .before .tracks-size .result + c .before .before .before .before .before .before .padding-of .result ≡ len (a .out .now) (a .at) (a .text .now) (a .material .now) (a .tracks .now) f = rw (c .before .before .before .before .before .before .padding-of .ensures, c .before .before .before .before .before .before .before .before .slots-size .ensures, c .before .before .before .before .before .before .before .tracks-size .ensures) in
+    let e = sym (c .before .before .before .before .before .lacks-room .ensures) ∙ c .before .before .before .before .if2 .left in
     let h = has-room (length (a .out .now)) (a .at) _ e in
     let g = packet-size (a .text .now) (a .material .now) (a .tracks .now) (clean _ _ _ f) in
-    let w = wrote (a .out .now) (a .at) (a .text .now) (a .material .now) (a .tracks .now) f (omega (arith, c .before .before .before .before .before .before .before .if2 .left, t)) (rw q at e) in
+    let w = wrote (a .out .now) (a .at) (a .text .now) (a .material .now) (a .tracks .now) f (rw q at e) in
     (sym (w .0 ∙ sym (ap Length q)), rw (c .before .before .put-packet .ensures) (part-over (a .out .now) (mapPacket (a .text .now) (a .material .now) (a .tracks .now)) (a .at) (omega arith)) ∙ sym (w .1))
 
 pub write-spec : {M : Type 1} → statement M
@@ -118,18 +101,16 @@ write-spec =
     returns
     slots-size-requires
     tracks-size-requires
-    refuse-requires-2
-    returns-2
     add-used
     add-used-2
     padding-of-requires
     add-len
     lacks-room-requires
-    refuse-requires-3
-    returns-3
+    refuse-requires-2
+    returns-2
     sub-put-packet
     part-put-packet-start
     part-put-packet-end
     put-packet-requires
     same-length
-    returns-4)
+    returns-3)
