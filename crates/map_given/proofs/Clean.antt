@@ -2,16 +2,17 @@
 use Prim.Native.Nat.{ℕ, zero, suc, _+_, _*_, _%_, _<_, _≤_}
 use mathlib.Core.Path.{_≡_, refl, sym, _∙_}
 use mathlib.Core.Bool.{Bool, true, false}
-use mathlib.Core.List.{List, [], _∷_, _++_}
+use mathlib.Core.List.{List, [], _∷_, _++_, map}
 use native.Mathlib.Omega.{arith}
 use borrow.Author.Tests.{eq-eqb, ne-eqb, eqb-true, ltb-false, leb-true, leb-false, le-leb, lt-leb}
-use lib.ListN.{length, take, drop}
+use lib.ListN.{length, take, drop, length-map}
 use lib.Dec.{ltb, leb, eqb}
 use Rattle.plate.specs.Choice.{pick}
 use Rattle.text.specs.Text.{textOk}
 use Rattle.media_type.specs.MediaType.{knownType}
 use Rattle.map_items.specs.Judge.{has}
 use Rattle.map_items.proofs.Anywhere.{never}
+use Rattle.map_items.proofs.Few.{Fresh, Between, few}
 use Rattle.map_given.specs.declared.Slot.{Slot}
 use Rattle.map_given.specs.Given.{slotAt, slots, materialSlots, Given, tracksGiven}
 use Rattle.map_given.specs.Faults.{isText, isEight, fits, reads, slotFault, graver, slotsFault, given, nullName, barred, ownFault, tracksFault, idFault, idsFault, faultOf}
@@ -170,3 +171,17 @@ clean text ms ts = go (eqb (length ms) 18) refl (eqb (length ts % 23) 0) refl
         record { words = eqb-true (length ms) 18 e; whole = eqb-true (length ts % 23) 0 f; material = k .0; tracks = k .1; ids = g .1 }
     go true e false f h = absurd (omega arith)
     go false e y f h = absurd (omega arith)
+
+-- so there are 64 tracks at most: their IDs differ and are under 64
+ids-apart : (ids : List ℕ) (ts : List Given) → idsFault ids ts ≡ 0 → Narrow ts → Fresh ids (map (λ (t : Given). t .id) ts) × Between 0 64 (map (λ (t : Given). t .id) ts)
+unfolding idsFault
+ids-apart ids [] h n = (tt, tt)
+ids-apart ids (t ∷ ts) h n =
+    let g = none-graver (idFault ids (t .id)) (idsFault (t .id ∷ ids) ts) h in
+    let r = ids-apart (t .id ∷ ids) ts (g .1) (n .1) in
+    ((id-fresh ids (t .id) (g .0), r .0), (omega arith, n .0, r .1))
+
+pub most-64 : (ts : List Given) → idsFault [] ts ≡ 0 → length ts ≤ 64
+most-64 ts h =
+    let a = ids-apart [] ts h (ids-narrow [] ts h) in
+    omega (arith, few 0 64 (map (λ (t : Given). t .id) ts) (a .0) (a .1), length-map ts (λ (t : Given). t .id))

@@ -1,6 +1,6 @@
 -- The fault of an input is 24, 11, 10, or 0 for none.
 use Prim.Native.Nat.{ℕ, _%_}
-use mathlib.Core.Path.{_≡_, refl}
+use mathlib.Core.Path.{_≡_, refl, sym}
 use mathlib.Core.Bool.{Bool, true, false}
 use mathlib.Core.List.{List, [], _∷_}
 use lib.ListN.{length}
@@ -8,6 +8,7 @@ use lib.Dec.{ltb, eqb}
 use Rattle.plate.specs.Choice.{pick}
 use Rattle.media_type.specs.MediaType.{knownType}
 use Rattle.map_items.specs.Judge.{has}
+use Rattle.map_items.proofs.Anywhere.{never}
 use Rattle.map_given.specs.declared.Slot.{Slot}
 use Rattle.map_given.specs.Given.{materialSlots, Given, tracksGiven}
 use Rattle.map_given.specs.Faults.{fits, reads, slotFault, graver, slotsFault, given, barred, ownFault, tracksFault, idFault, idsFault, faultOf}
@@ -80,3 +81,18 @@ fault-named text ms ts =
     (named-graver _ _ (named-graver _ _ (slots-named text (materialSlots ms)) (tracks-named text (tracksGiven ts))) (ids-named [] (tracksGiven ts)))
     named-24)
     named-24
+
+-- a fault, where there is one
+pub fault-among : (f : ℕ) → eqb f 0 ≡ false → Named f → has f (24 ∷ 11 ∷ 10 ∷ 13 ∷ []) ≡ true
+unfolding has
+fault-among f e = rw e (go (eqb f 24) (eqb f 11) (eqb f 10))
+  where
+    go : (a b c : Bool) → pick a true (pick b true (pick c true false)) ≡ true → pick a true (pick b true (pick c true (pick (eqb f 13) true false))) ≡ true
+    go true b c h = refl
+    go false true c h = refl
+    go false false true h = refl
+    go false false false h = never (sym h)
+
+pub not-13 : (f : ℕ) → Named f → f ≡ 13 → ⊥
+unfolding has
+not-13 f n e = never (sym (rw e at n))

@@ -1,4 +1,5 @@
 pub mod Anywhere
+pub mod Few
 pub mod Judged
 pub mod Lookup
 pub mod Numbers

@@ -1,12 +1,12 @@
 -- The packet put together from its runs, and the outcomes of a call.
-use Prim.Native.Nat.{ℕ, _+_, _-_}
+use Prim.Native.Nat.{ℕ, zero, suc, _+_, _-_}
 use mathlib.Core.Path.{_≡_, refl, sym, _∙_, ap}
 use mathlib.Core.Bool.{true, false}
 use mathlib.Core.List.{List, [], _∷_, _++_, append-assoc}
 use native.Mathlib.Omega.{arith}
 use native.Mathlib.Nat.{zero-add}
 use borrow.Author.Tests.{ne-eqb}
-use lib.ListN.{length, set, replicate, length-append}
+use lib.ListN.{length, replicate, length-append}
 use lib.Seq.{sets}
 use lib.Dec.{ltb}
 use Rattle.number.specs.Number.{beBytes}
@@ -33,7 +33,17 @@ run-more a b l n e = rw (← e) (rw zero-add at (sets-append a l 0 b))
 abbrev zeros : List ℕ
 zeros = 0 ∷ 0 ∷ 0 ∷ 0 ∷ []
 
-pub first-run : (l : List ℕ) (len : ℕ) → set (set (sets l 0 (headerOf 0xBC len)) 16 0xE0) 17 0xFF ≡ sets l 0 (front len zeros 0xFF)
+-- the bytes of 0 are zeros
+one-more : (n a : ℕ) → replicate n a ++ (a ∷ []) ≡ replicate (suc n) a
+one-more zero a = refl
+one-more (suc n) a = ap (λ (l : List ℕ). a ∷ l) (one-more n a)
+
+pub zero-bytes : (n : ℕ) → beBytes n 0 ≡ replicate n 0
+unfolding beBytes
+zero-bytes zero = refl
+zero-bytes (suc n) = rw (zero-bytes n) (one-more n 0)
+
+pub first-run : (l : List ℕ) (len : ℕ) → sets (sets l 0 (headerOf 0xBC len)) 16 (0xE0 ∷ 0xFF ∷ []) ≡ sets l 0 (front len zeros 0xFF)
 unfolding headerOf front beBytes
 first-run l len = refl
 

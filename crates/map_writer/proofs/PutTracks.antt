@@ -3,7 +3,7 @@ use Prim.Native.Nat.{ℕ, _+_, _-_, _*_, _<_, _≤_}
 use mathlib.Core.Path.{_≡_, refl, _∙_}
 use mathlib.Core.List.{List, [], _∷_, _++_, append-assoc, append-nil}
 use native.Mathlib.Omega.{arith}
-use lib.ListN.{length, set, length-append}
+use lib.ListN.{length, length-append}
 use lib.Seq.{sets}
 use Rattle.number.specs.Number.{beBytes}
 use Rattle.number.proofs.Laws.{length-beBytes}
@@ -17,7 +17,7 @@ use Rattle.map_given.specs.Faults.{slotsFault, ownFault, tracksFault}
 use Rattle.map_writer.specs.Write.{itemsOf}
 use Rattle.map_given.proofs.Laws.{tracks-more, no-tracks}
 use Rattle.map_writer.proofs.Laws.{tracks-size-turn}
-use Rattle.map_writer.proofs.Puts.{item-run, slots-length}
+use Rattle.map_writer.proofs.Puts.{slots-length}
 use Rattle.map_given.proofs.Clean.{tracks-clean, Narrow, known-under, own-known}
 
 -- a track: two bytes, the length and the items
@@ -26,9 +26,9 @@ pub track-bytes : (text : List ℕ) (t : Given) → slotsFault text (t .slots) �
 unfolding tracksBytes tracks.descriptionsBytes described
 track-bytes text t h = rw (slots-length text (t .slots) h, append-nil)
 
-pub track-run : (l v : List ℕ) (pos k i n : ℕ) → sets (sets (set (set l pos k) (pos + 1) i) (pos + 2) (beBytes 2 n)) (pos + 4) v ≡ sets l pos (k ∷ i ∷ (beBytes 2 n ++ v))
+pub track-run : (l v : List ℕ) (pos k i n : ℕ) → sets (sets (sets l pos (k ∷ i ∷ [])) (pos + 2) (beBytes 2 n)) (pos + 4) v ≡ sets l pos (k ∷ i ∷ (beBytes 2 n ++ v))
 unfolding beBytes
-track-run l v pos k i n = rw (item-run l (beBytes 2 n) pos k i) (sets-append (k ∷ i ∷ beBytes 2 n) l pos v)
+track-run l v pos k i n = rw (sets-append (k ∷ i ∷ []) l pos (beBytes 2 n)) (sets-append (k ∷ i ∷ beBytes 2 n) l pos v)
 
 pub track-length : (text : List ℕ) (t : Given) → slotsFault text (t .slots) ≡ 0 → length (tracksBytes text (t ∷ [])) ≡ 4 + slotsSize (t .slots)
 track-length text t h =

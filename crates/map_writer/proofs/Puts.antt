@@ -1,10 +1,10 @@
 -- How the writer puts bytes together: run after run.
-use Prim.Native.Nat.{ℕ, zero, suc, _+_, _-_, _*_, _<_, _≤_}
+use Prim.Native.Nat.{ℕ, _+_, _-_, _*_, _<_, _≤_}
 use mathlib.Core.Path.{_≡_, refl, _∙_, ap}
 use mathlib.Core.List.{List, [], _∷_, _++_, append-assoc, append-nil}
 use native.Mathlib.Omega.{arith}
 use native.Mathlib.Numerals.{add-one}
-use lib.ListN.{length, getD, set, take, drop, replicate, length-replicate, length-drop, length-append}
+use lib.ListN.{length, getD, set, take, drop, length-drop, length-append}
 use lib.Seq.{sets, take-suc, length-take-le, getD-drop}
 use Rattle.number.proofs.Stores.{sets-append}
 use mathlib.Core.Bool.{Bool, true, false}
@@ -34,25 +34,12 @@ copy-more l text pos from i b h e =
     let k : i < length (drop from text) = simp length-drop (omega arith) in
     rw (add-one, take-suc (drop from text) i 0 k, getD-drop, ← e) (byte-more (take i (drop from text)) l pos i b (length-take-le i (drop from text) (omega arith)))
 
-replicate-more : (n a : ℕ) → replicate (n + 1) a ≡ replicate n a ++ (a ∷ [])
-replicate-more n a = rw add-one (go n)
-  where
-    go : (n : ℕ) → replicate (suc n) a ≡ replicate n a ++ (a ∷ [])
-    go zero = refl
-    go (suc n) = ap (λ (l : List ℕ). a ∷ l) (go n)
-
-pub zero-more : (l : List ℕ) (pos i : ℕ) → set (sets l pos (replicate i 0)) (pos + i) 0 ≡ sets l pos (replicate (i + 1) 0)
-zero-more l pos i = rw (replicate-more i 0) (byte-more (replicate i 0) l pos i 0 (length-replicate i 0))
-
--- an item: its tag, its length byte and its value, which may get its 00 last
-pub item-run : (l v : List ℕ) (pos tag n : ℕ) → sets (set (set l pos tag) (pos + 1) n) (pos + 2) v ≡ sets l pos (tag ∷ n ∷ v)
-item-run l v pos tag n = rw (byte-more (tag ∷ []) l pos 1 n refl) (sets-append (tag ∷ n ∷ []) l pos v)
-
-pub text-run : (l v : List ℕ) (pos tag n m : ℕ) → length v ≡ m → set (sets (set (set l pos tag) (pos + 1) n) (pos + 2) v) (pos + 2 + m) 0 ≡ sets l pos (tag ∷ n ∷ (v ++ (0 ∷ [])))
+-- a text: its tag and its length byte, its bytes, and its 00 last
+pub text-run : (l v : List ℕ) (pos tag n m : ℕ) → length v ≡ m → set (sets (sets l pos (tag ∷ n ∷ [])) (pos + 2) v) (pos + 2 + m) 0 ≡ sets l pos (tag ∷ n ∷ (v ++ (0 ∷ [])))
 text-run l v pos tag n m e =
     let a : pos + 2 + m ≡ pos + (2 + m) = omega arith in
     let b : length (tag ∷ n ∷ v) ≡ 2 + m = omega arith in
-    rw (item-run l v pos tag n, a) (byte-more (tag ∷ n ∷ v) l pos (2 + m) 0 b)
+    rw (sets-append (tag ∷ n ∷ []) l pos v, a) (byte-more (tag ∷ n ∷ v) l pos (2 + m) 0 b)
 
 module _ (text : List ℕ) (s : Slot) where
   item-bytes : (v : List ℕ) → s .mark ≡ 1 → slotValue text s ≡ v → itemsBytes (itemsOf text (s ∷ [])) ≡ s .tag ∷ length v ∷ v

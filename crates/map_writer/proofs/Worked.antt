@@ -14,9 +14,11 @@ use Rattle.map.specs.Encode as encode
 use Rattle.map.specs.Encode.{described, padding, packetLength, sectionBytes, front, encode}
 use Rattle.packet_writer.specs.Write.{refused}
 use Rattle.packet_writer.specs.declared.WriteAnswer.the-variants.{Length}
-use Rattle.map_given.specs.Given.{slots, tracksFrom}
+use Rattle.map_given.specs.Given.{slots, materialSlots, tracksFrom, tracksGiven}
 use Rattle.map_given.specs.Faults.{isText, isEight, isCode, codeFits, fits, reads, slotFault, slotsFault, given, nullName, barred, ownFault, tracksFault, idFault, idsFault, faultOf}
-use Rattle.map_writer.specs.Write.{slotValue, itemsOf, partsGiven, mapPacket, mapAnswer, mapWrittenIn}
+use Rattle.map_writer.specs.Inside.{slotSize, slotsSize, tracksSize}
+use Rattle.map_writer.specs.Largest.{largestText, largestMaterial, largestTracks}
+use Rattle.map_writer.specs.Write.{slotValue, itemsOf, partsGiven, mapPacket, mapAnswer}
 
 -- an absent slot, a number, a code of −2, a text
 abbrev absent : List ℕ
@@ -76,7 +78,22 @@ pub edges :
     -- an auxiliary item beside a null name; beside no name it is written
     × (mapAnswer [] 0 (replicate 8 1) (material 0) ((10 ∷ 1 ∷ []) ++ at 0 0 ++ at 0 8 ++ replicate 15 0) ≡ refused 24)
     × (mapAnswer [] 0 (replicate 8 1) (material 0) ((10 ∷ 1 ∷ []) ++ absent ++ at 0 8 ++ replicate 15 0) ≡ refused 13)
+    -- a track of 295 bytes: a name of 254 bytes, a 4D, a 4E and the three codes; 22 and 295 bytes, and three zeros
+    × (mapAnswer (replicate 320 7) 0 (replicate 254 0x41) (replicate 18 0) ((11 ∷ 1 ∷ []) ++ at 0 254 ++ at 0 8 ++ number 1 ++ absent ++ number 1 ++ number 1 ++ number 1) ≡ Length 320)
     -- 4D beside 4F
     × (mapAnswer [] 0 (replicate 8 1) (material 0) ((10 ∷ 1 ∷ []) ++ at 0 1 ++ at 0 8 ++ absent ++ at 0 1 ++ replicate 9 0) ≡ refused 10)
 unfolding mapAnswer faultOf slotsFault slotFault fits reads isText isEight isCode codeFits allowed has textOk knownType tracksFault ownFault barred nullName given idsFault idFault slots tracksFrom mapPacket partsGiven itemsOf slotValue encode encode.packetOf front sectionBytes packetLength padding described itemsBytes tracks.descriptionsBytes beBytes
-edges = (refl, refl, refl, refl, refl, refl, refl, refl, refl, refl, refl, refl, refl, refl, refl, refl, refl, refl, refl, refl)
+edges = (refl, refl, refl, refl, refl, refl, refl, refl, refl, refl, refl, refl, refl, refl, refl, refl, refl, refl, refl, refl, refl)
+
+-- the largest map has no fault; and what its items and its tracks take
+pub largest-sound : faultOf largestText largestMaterial largestTracks ≡ 0
+unfolding faultOf slotsFault slotFault fits reads isText isEight isCode codeFits allowed has textOk knownType tracksFault ownFault barred nullName given idsFault idFault slots tracksFrom
+largest-sound = refl
+
+pub largest-material : slotsSize (materialSlots largestMaterial) ≡ 287
+unfolding slots slotsSize slotSize isText isEight has
+largest-material = refl
+
+pub largest-tracks : tracksSize (tracksGiven largestTracks) ≡ 34688
+unfolding tracksFrom slots tracksSize slotsSize slotSize isText isEight has
+largest-tracks = refl

@@ -1,5 +1,5 @@
 -- How long a written map can be (docs/changes/09-without-25.md): what no input without fault passes, an input that reaches it, and the room that is enough for every map.
--- A length word states up to 65,535 bytes, so each section fits, and no refusal says that one does not. Proved in proofs/Largest.antt.
+-- A length word states up to 65,535 bytes, so each section fits, and no refusal is needed for one that does not. Proved in proofs/Largest.antt.
 use Prim.Native.Nat.{ℕ, zero, suc, _+_, _-_, _≤_, _<_}
 use mathlib.Core.Path.{_≡_}
 use mathlib.Core.Bool.{true}
@@ -22,27 +22,27 @@ materialLength p = length (itemsBytes (p .material))
 abbrev pub tracksLength : MapParts → ℕ
 tracksLength p = length (tracks.descriptionsBytes (map described (p .tracks)))
 
--- a track's bytes, its header with them, and that of each track they are so many
+-- a track's length, its header included; and what holds of the length of every track
 abbrev pub trackLength : TrackParts → ℕ
 trackLength t = length (tracks.descriptionsBytes (described t ∷ []))
 
 abbrev pub Each : (ℕ → Type 0) → List TrackParts → Type 0
-Each Many [] = Unit {0}
-Each Many (t ∷ ts) = Many (trackLength t) × Each Many ts
+Each Long [] = Unit {0}
+Each Long (t ∷ ts) = Long (trackLength t) × Each Long ts
 
 -- the sizes of the map that an input makes, held against the bounds: they are at most these, or just these
 pub record Sizes (Holds : ℕ → ℕ → Type 0) (text ms ts : List ℕ) : Type 0 where
   pub count : Holds (length (partsGiven text ms ts .tracks)) 64
-  -- 4 for the header, 257 for the name, 257 for the 4F, 6 for the 4E, 18 for the codes; with a 4D in the 4F's place they are 295
+  -- 4 for the header, 257 for the name, 257 for the 4F, 6 for the 4E, 18 for the codes; a track with a 4D in the 4F's place has 295 at most
   pub track : Each (λ n. Holds n 542) (partsGiven text ms ts .tracks)
-  pub tracks : Holds (tracksLength (partsGiven text ms ts)) 34688
+  pub trackSection : Holds (tracksLength (partsGiven text ms ts)) 34688
   -- 257 for the name, 30 for the numbers
-  pub material : Holds (materialLength (partsGiven text ms ts)) 287
+  pub materialSection : Holds (materialLength (partsGiven text ms ts)) 287
   -- 22 for the packet's header, the preamble and the two length words; the padding comes on top
   pub used : Holds (22 + materialLength (partsGiven text ms ts) + tracksLength (partsGiven text ms ts)) 34997
   pub packet : Holds (length (mapPacket text ms ts)) 35000
 
--- the largest map: one text of 254 bytes for every name and 4F, and 1 for every number and code
+-- the largest map, by the writer's rules, which don't open a 4F: one text of 254 bytes for every name and 4F, and 1 for every number and code
 abbrev pub largestText : List ℕ
 largestText = replicate 254 0x41
 
@@ -69,13 +69,17 @@ largestTracks = largestTracksFrom 64 0
 pub record Largest : Type 0 where
   -- no input without 24, 11 and 10 passes the bounds
   pub most : (text ms ts : List ℕ) → faultOf text ms ts ≡ 0 → Sizes _≤_ text ms ts
-  -- and the largest map, which has none of the three, is at every one of them
+  -- so each section fits its length word
+  pub fits : (text ms ts : List ℕ) → faultOf text ms ts ≡ 0 → (materialLength (partsGiven text ms ts) ≤ 65535) × (tracksLength (partsGiven text ms ts) ≤ 65535)
+  -- and a length that is answered is 35,000 at most
+  pub lengths : (out : List ℕ) (at : ℕ) (text ms ts : List ℕ) (n : ℕ) → mapAnswer out at text ms ts ≡ Length n → n ≤ 35000
+  -- the largest map, which has none of the three faults, is at every one of the bounds
   pub sound : faultOf largestText largestMaterial largestTracks ≡ 0
   pub reached : Sizes (_≡_ {A = ℕ}) largestText largestMaterial largestTracks
-  -- so 35,000 bytes from the place on are room enough for every map: it is written, and no call is refused with 13
+  -- 35,000 bytes from the place on are room enough for every map: it is written, and no call is refused with 13
   pub written : (out : List ℕ) (at : ℕ) (text ms ts : List ℕ) → at + 35000 ≤ length out → faultOf text ms ts ≡ 0 → mapAnswer out at text ms ts ≡ Length (length (mapPacket text ms ts))
   pub never-13 : (out : List ℕ) (at : ℕ) (text ms ts : List ℕ) (r : Refusal) → at + 35000 ≤ length out → mapAnswer out at text ms ts ≡ Refused r → r .number ≡ 13 → ⊥
   -- and fewer are not: the largest map is refused there
   pub fewer-13 : (out : List ℕ) (at : ℕ) → length out - at < 35000 → mapAnswer out at largestText largestMaterial largestTracks ≡ refused 13
   -- a refusal is 24, 11, 10 or 13, and its place is 0
-  pub numbers : (out : List ℕ) (at : ℕ) (text ms ts : List ℕ) (r : Refusal) → mapAnswer out at text ms ts ≡ Refused r → (has (r .number) (24 ∷ 11 ∷ 10 ∷ 13 ∷ []) ≡ true) × (r .place ≡ 0)
+  pub refusals : (out : List ℕ) (at : ℕ) (text ms ts : List ℕ) (r : Refusal) → mapAnswer out at text ms ts ≡ Refused r → (has (r .number) (24 ∷ 11 ∷ 10 ∷ 13 ∷ []) ≡ true) × (r .place ≡ 0)

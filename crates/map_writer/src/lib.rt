@@ -85,16 +85,13 @@ fn copy(out: &mut [u8], pos: usize, text: &[u8], from: usize, n: usize)
     }
 }
 
-// Writes n zeros.
-fn put_zeros(out: &mut [u8], pos: usize, n: usize)
-    requires { ⌜ pos + n ≤ length (now out) ⌝ }
-    ensures { λ _. ⌜ now (out .exit) ≡ sets (now (out .entry)) pos (replicate n 0) ⌝ }
+// Writes two bytes: those that an item or a track begins with.
+fn put_two(out: &mut [u8], pos: usize, first: u8, second: u8)
+    requires { ⌜ pos + 2 ≤ length (now out) ⌝ }
+    ensures { λ _. ⌜ now (out .exit) ≡ sets (now (out .entry)) pos (first ∷ second ∷ []) ⌝ }
 {
-    let mut i: usize = 0;
-    while i < n {
-        out[pos + i] = 0;
-        i += 1;
-    }
+    out[pos] = first;
+    out[pos + 1] = second;
 }
 
 // Writes a text item: n bytes of the lent text, and the 00.
@@ -102,8 +99,7 @@ fn put_text(out: &mut [u8], pos: usize, tag: u8, text: &[u8], from: usize, n: us
     requires { ⌜ (pos + 3 + n ≤ length (now out)) × (from + n ≤ length (now text)) × (n ≤ 254) ⌝ }
     ensures { λ _. ⌜ now (out .exit) ≡ sets (now (out .entry)) pos (tag ∷ (n + 1) ∷ (take n (drop from (now (text .entry))) ++ (0 ∷ []))) ⌝ }
 {
-    out[pos] = tag;
-    out[pos + 1] = (n + 1) as u8;
+    put_two(out, pos, tag, (n + 1) as u8);
     copy(out, pos + 2, text, from, n);
     out[pos + 2 + n] = 0;
 }
@@ -113,8 +109,7 @@ fn put_eight(out: &mut [u8], pos: usize, text: &[u8], from: usize)
     requires { ⌜ (pos + 10 ≤ length (now out)) × (from + 8 ≤ length (now text)) ⌝ }
     ensures { λ _. ⌜ now (out .exit) ≡ sets (now (out .entry)) pos (0x4D ∷ 8 ∷ take 8 (drop from (now (text .entry)))) ⌝ }
 {
-    out[pos] = 0x4D;
-    out[pos + 1] = 8;
+    put_two(out, pos, 0x4D, 8);
     copy(out, pos + 2, text, from, 8);
 }
 
@@ -123,8 +118,7 @@ fn put_number(out: &mut [u8], pos: usize, tag: u8, v: usize)
     requires { ⌜ pos + 6 ≤ length (now out) ⌝ }
     ensures { λ _. ⌜ now (out .exit) ≡ sets (now (out .entry)) pos (tag ∷ 4 ∷ beBytes 4 v) ⌝ }
 {
-    out[pos] = tag;
-    out[pos + 1] = 4;
+    put_two(out, pos, tag, 4);
     number::put_be(out, pos + 2, v, 4);
 }
 
@@ -178,8 +172,7 @@ fn put_track(out: &mut [u8], pos: usize, text: &[u8], ts: &[u64], at: usize, siz
     requires { ⌜ (at + 23 ≤ length (now ts)) × (size ≡ slotsSize (trackAt (now ts) at .slots)) × (pos + 4 + size ≤ length (now out)) × (slotsFault (now text) (trackAt (now ts) at .slots) ≡ 0) × (getD (now ts) at 0 < 128) × (getD (now ts) (at + 1) 0 < 64) ⌝ }
     ensures { λ _. ⌜ now (out .exit) ≡ sets (now (out .entry)) pos (tracksBytes (now (text .entry)) (trackAt (now (ts .entry)) at ∷ [])) ⌝ }
 {
-    out[pos] = (0x80 + ts[at]) as u8;
-    out[pos + 1] = (0xC0 + ts[at + map_given::ID]) as u8;
+    put_two(out, pos, (0x80 + ts[at]) as u8, (0xC0 + ts[at + map_given::ID]) as u8);
     number::put_be(out, pos + 2, size, 2);
     put_slots(out, pos + 4, text, ts, at + map_given::NAME, 0x4C, 7);
 }
@@ -214,8 +207,7 @@ fn put_front(out: &mut [u8], len: usize)
     ensures { λ _. ⌜ now (out .exit) ≡ sets (now (out .entry)) 0 (front len (0 ∷ 0 ∷ 0 ∷ 0 ∷ []) 0xFF) ⌝ }
 {
     packet_writer::put_header(out, packet::MAP, len);
-    out[16] = 0xE0;
-    out[17] = 0xFF;
+    put_two(out, 16, 0xE0, 0xFF);
 }
 
 // Writes the packet at the start of the buffer; m and t are the lengths of its sections.
@@ -230,7 +222,7 @@ fn put_packet(out: &mut [u8], text: &[u8], material: &[u64], tracks: &[u64], m: 
     put_slots(out, 20, text, material, 0, 0x40, 6);
     number::put_be(out, 20 + m, t, 2);
     put_tracks(out, 22 + m, text, tracks);
-    put_zeros(out, used, pad);
+    number::put_be(out, used, 0, pad); // zeros
 }
 
 // Writes a map packet at a place of the buffer: refusals 24, 11, 10 and 13, in this order.

@@ -2,33 +2,25 @@
 use borrow.Author.Needs.{needs}
 use Rattle.map_writer.proofs.put_eight.Statement.{statement}
 use Rattle.map_writer.proofs.put_eight.Tie as tie
-use native.Mathlib.Omega.{arith}
 use mathlib.Core.Path.{_∙_}
-use lib.ListN.{drop, length-set, take}
-use Rattle.map_writer.proofs.Puts.{item-run}
+use mathlib.Core.List.{[], _∷_}
+use lib.ListN.{take, drop}
+use Rattle.number.proofs.Stores.{sets-append}
 
-slice-write-out : tie.Need-slice-write-out
-slice-write-out c = search needs
-
-add-out : tie.Need-add-out
-add-out c = search needs
-
-slice-write-out-2 : tie.Need-slice-write-out-2
-slice-write-out-2 c = simp length-set (omega arith)
+put-two-requires : tie.Need-put-two-requires
+put-two-requires c κs = search needs
 
 add-copy : tie.Need-add-copy
 add-copy c = search needs
 
 copy-requires : tie.Need-copy-requires
-copy-requires c κs = (simp length-set (omega arith), omega arith)
+copy-requires c κs = search needs
 
 same-length : tie.Need-same-length
-same-length c = simp length-set at (c .before .before .copy .kept .0)
+same-length c = search needs
 
 returns : tie.Need-returns
-returns c = let a = c .before .before .before .before .before .before .args in c .before .before .copy .ensures ∙ item-run (a .out .now) (take 8 (drop (a .from) (a .text .now))) (a .pos) 0x4D 8
+returns c = let a = c .before .before .before .before .before .before .before .before .before .before .args in c .before .before .copy .ensures ∙ rw (c .before .before .before .before .before .before .put-two .ensures) (sets-append (0x4D ∷ 8 ∷ []) (a .out .now) (a .pos) (take 8 (drop (a .from) (a .text .now))))
 
 pub put-eight-spec : {M : Type 1} → statement M
-put-eight-spec =
-    tie.close
-    (tie.spec slice-write-out add-out slice-write-out-2 add-copy copy-requires same-length returns)
+put-eight-spec = tie.close (tie.spec put-two-requires add-copy copy-requires same-length returns)

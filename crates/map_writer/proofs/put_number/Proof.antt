@@ -2,41 +2,25 @@
 use borrow.Author.Needs.{needs}
 use Rattle.map_writer.proofs.put_number.Statement.{statement}
 use Rattle.map_writer.proofs.put_number.Tie as tie
-use native.Mathlib.Omega.{arith}
 use mathlib.Core.Path.{_∙_}
-use lib.ListN.{length-set}
-use Rattle.map_writer.proofs.Puts.{item-run}
+use mathlib.Core.List.{[], _∷_}
 use Rattle.number.specs.Number.{beBytes}
+use Rattle.number.proofs.Stores.{sets-append}
 
-slice-write-out : tie.Need-slice-write-out
-slice-write-out c = search needs
-
-add-out : tie.Need-add-out
-add-out c = search needs
-
-slice-write-out-2 : tie.Need-slice-write-out-2
-slice-write-out-2 c = simp length-set (omega arith)
+put-two-requires : tie.Need-put-two-requires
+put-two-requires c κs = search needs
 
 add-put-be : tie.Need-add-put-be
 add-put-be c = search needs
 
 put-be-requires : tie.Need-put-be-requires
-put-be-requires c κs = simp length-set (omega arith)
+put-be-requires c κs = search needs
 
 same-length : tie.Need-same-length
-same-length c = simp length-set at (c .before .before .put-be .kept .0)
+same-length c = search needs
 
 returns : tie.Need-returns
-returns c = let a = c .before .before .before .before .before .args in c .before .before .put-be .ensures ∙ item-run (a .out .now) (beBytes 4 (a .v)) (a .pos) (a .tag) 4
+returns c = let a = c .before .before .before .before .before .before .before .before .before .args in c .before .before .put-be .ensures ∙ rw (c .before .before .before .before .before .before .put-two .ensures) (sets-append (a .tag ∷ 4 ∷ []) (a .out .now) (a .pos) (beBytes 4 (a .v)))
 
 pub put-number-spec : {M : Type 1} → statement M
-put-number-spec =
-    tie.close
-    (tie.spec
-    slice-write-out
-    add-out
-    slice-write-out-2
-    add-put-be
-    put-be-requires
-    same-length
-    returns)
+put-number-spec = tie.close (tie.spec put-two-requires add-put-be put-be-requires same-length returns)

@@ -5,7 +5,7 @@ use Rattle.map_writer.proofs.put_packet.Tie as tie
 use native.Mathlib.Omega.{arith}
 use mathlib.Core.Path.{_∙_}
 use Rattle.map_given.proofs.Clean.{clean}
-use Rattle.map_writer.proofs.Packet.{packet-runs}
+use Rattle.map_writer.proofs.Packet.{zero-bytes, packet-runs}
 
 add-used : tie.Need-add-used
 add-used c = search needs
@@ -48,8 +48,8 @@ put-tracks-requires c κs =
     let e = p .2 in
     (omega (arith, p .0, c .before .before .before .put-be2 .kept .0, c .before .before .before .before .before .before .before .put-slots .kept .0, c .before .before .before .before .before .before .before .before .before .before .before .put-be .kept .0, c .before .before .before .before .before .before .before .before .before .before .before .before .before .before .before .put-front .kept .0), g .tracks, g .ids)
 
-put-zeros-requires : tie.Need-put-zeros-requires
-put-zeros-requires c κs = search needs
+put-be-requires-3 : tie.Need-put-be-requires-3
+put-be-requires-3 c κs = search needs
 
 same-length : tie.Need-same-length
 same-length c = search needs
@@ -58,8 +58,8 @@ returns : tie.Need-returns
 returns c =
     let a = c .before .before .before .before .before .before .before .before .before .before .before .before .before .before .before .before .before .before .before .before .before .before .before .before .before .before .before .before .before .args in
     let p = c .before .before .before .before .before .before .before .before .before .before .before .before .before .before .before .before .before .before .before .before .before .before .before .before .before .before .before .before .before .pre in
-    c .before .before .put-zeros .ensures
-    ∙ rw (c .before .before .before .before .before .before .put-tracks .ensures, c .before .before .before .before .before .before .before .before .before .before .put-be2 .ensures, c .before .before .before .before .before .before .before .before .before .before .before .before .before .before .put-slots .ensures, c .before .before .before .before .before .before .before .before .before .before .before .before .before .before .before .before .before .before .put-be .ensures, c .before .before .before .before .before .before .before .before .before .before .before .before .before .before .before .before .before .before .before .before .before .before .put-front .ensures)
+    c .before .before .put-be3 .ensures
+    ∙ rw (zero-bytes, c .before .before .before .before .before .before .put-tracks .ensures, c .before .before .before .before .before .before .before .before .before .before .put-be2 .ensures, c .before .before .before .before .before .before .before .before .before .before .before .before .before .before .put-slots .ensures, c .before .before .before .before .before .before .before .before .before .before .before .before .before .before .before .before .before .before .put-be .ensures, c .before .before .before .before .before .before .before .before .before .before .before .before .before .before .before .before .before .before .before .before .before .before .put-front .ensures)
     (packet-runs (a .text .now) (a .material .now) (a .tracks .now) (clean _ _ _ (p .3)) (a .out .now) (a .m) (a .t) _ (p .1) (p .2) (c .before .before .before .before .before .before .before .before .before .before .before .before .before .before .before .before .before .before .before .before .before .before .before .before .padding-of .ensures))
 
 pub put-packet-spec : {M : Type 1} → statement M
@@ -77,6 +77,6 @@ put-packet-spec =
     put-be-requires-2
     add-put-tracks
     put-tracks-requires
-    put-zeros-requires
+    put-be-requires-3
     same-length
     returns)

@@ -3,7 +3,7 @@ use Rattle.map_writer.proofs.tracks_size.Statement.{statement}
 use Rattle.map_writer.proofs.tracks_size.Tie as tie
 use borrow.Author.Needs.{needs}
 use native.Mathlib.Omega.{arith}
-use mathlib.Core.Path.{_≡_, sym, _∙_}
+use mathlib.Core.Path.{_≡_}
 use Prim.Native.Nat.{_+_, _*_, _≤_}
 use lib.ListN.{length}
 use Rattle.map_writer.proofs.Laws.{tracks-size-turn, tracks-size-out}

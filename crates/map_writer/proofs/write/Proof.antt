@@ -8,10 +8,7 @@ use Prim.Native.Nat.{_+_}
 use lib.ListN.{length, length-drop, length-take}
 use Rattle.packet_writer.specs.declared.WriteAnswer.the-variants.{Refused, Length}
 use Rattle.packet_writer.proofs.Laws.{part-over, has-room}
-use Rattle.map.specs.Encode.{padding}
 use Rattle.map.proofs.Encoded.{padding-under}
-use Rattle.map_given.specs.Given.{materialSlots, tracksGiven}
-use Rattle.map_writer.specs.Inside.{slotsSize, tracksSize}
 use Rattle.map_writer.specs.Write.{mapPacket}
 use Rattle.map_writer.proofs.Bounds.{material-most, section-most}
 use Rattle.map_given.proofs.Clean.{clean}
