@@ -16,7 +16,7 @@ use Rattle.map.proofs.Encoded.{padding-under}
 use Rattle.packet_writer.specs.Write.{refused}
 use Rattle.packet_writer.specs.declared.WriteAnswer.the-variants.{Length, Refused}
 use Rattle.map_given.specs.Given.{materialSlots, tracksFrom, tracksGiven}
-use Rattle.map_given.specs.Faults.{fits, faultOf}
+use Rattle.map_given.specs.Faults.{faultOf}
 use Rattle.map_given.proofs.Clean.{Clean, clean, most-64}
 use Rattle.map_given.proofs.Numbers.{fault-named, fault-among, not-13}
 use Rattle.map_writer.specs.Inside.{slotsSize, tracksSize, tracksBytes}

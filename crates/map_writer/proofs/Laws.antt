@@ -1,5 +1,5 @@
 -- The laws of sizes: of a slot, of some, and of the rest.
-use Prim.Native.Nat.{ℕ, zero, suc, _+_, _-_, _*_, _<_, _≤_}
+use Prim.Native.Nat.{ℕ, _+_, _-_, _<_, _≤_}
 use mathlib.Core.Path.{_≡_, refl}
 use mathlib.Core.Bool.{Bool, true, false}
 use mathlib.Core.List.{List}
@@ -24,19 +24,6 @@ slot-under s = go (eqb (s .mark) 1) (isText (s .tag)) (ltb 254 (s .second)) refl
     go true false x e true = omega arith
     go true false x e false = omega arith
     go false b x e y = omega arith
-
-any-under : (s : Slot) → slotSize s ≤ 257
-any-under s = go (isText (s .tag)) (isEight (s .tag)) (slot-under s)
-  where
-    go : (a b : Bool) → slotSize s ≤ pick a 257 (pick b 10 6) → slotSize s ≤ 257
-    go true b h = h
-    go false true h = omega arith
-    go false false h = omega arith
-
-pub slots-under : (n : ℕ) (ws : List ℕ) (at tag : ℕ) → slotsSize (slots n ws at tag) ≤ 257 * n
-unfolding slots slotsSize
-slots-under zero ws at tag = omega arith
-slots-under (suc n) ws at tag = omega (arith, any-under (slotAt ws at tag), slots-under n ws (at + 3) (tag + 1))
 
 module _ (ws : List ℕ) where
   pub slots-size-turn : (n at tag : ℕ) → 0 < n → slotsSize (slots n ws at tag) ≡ slotSize (slotAt ws at tag) + slotsSize (slots (n - 1) ws (at + 3) (tag + 1))

@@ -4,9 +4,8 @@ use mathlib.Core.Path.{_≡_, refl, sym, _∙_, ap}
 use mathlib.Core.Bool.{true, false}
 use mathlib.Core.List.{List, [], _∷_, _++_, append-assoc}
 use native.Mathlib.Omega.{arith}
-use native.Mathlib.Nat.{zero-add}
 use borrow.Author.Tests.{ne-eqb}
-use lib.ListN.{length, replicate, length-append}
+use lib.ListN.{length, replicate}
 use lib.Seq.{sets}
 use lib.Dec.{ltb}
 use Rattle.number.specs.Number.{beBytes}
@@ -26,9 +25,9 @@ use Rattle.map_writer.proofs.Puts.{slots-length}
 use Rattle.map_writer.proofs.PutTracks.{tracks-length}
 use Rattle.map_given.proofs.Clean.{Clean, clean}
 
--- a run after what stands from 0 on
-run-more : (a b l : List ℕ) (n : ℕ) → length a ≡ n → sets (sets l 0 a) n b ≡ sets l 0 (a ++ b)
-run-more a b l n e = rw (← e) (rw zero-add at (sets-append a l 0 b))
+-- what is put in two runs is put in one
+two-runs : (p r l : List ℕ) (i n : ℕ) → i + length p ≡ n → sets l i (p ++ r) ≡ sets (sets l i p) n r
+two-runs p r l i n e = rw (← e) (sym (sets-append p l i r))
 
 abbrev zeros : List ℕ
 zeros = 0 ∷ 0 ∷ 0 ∷ 0 ∷ []
@@ -47,61 +46,30 @@ pub first-run : (l : List ℕ) (len : ℕ) → sets (sets l 0 (headerOf 0xBC len
 unfolding headerOf front beBytes
 first-run l len = refl
 
-module _ (l m t : List ℕ) (len pad : ℕ) where
-  abbrev x : ℕ
-  x = length m
-
-  abbrev y : ℕ
-  y = length t
-
-  abbrev a1 : List ℕ
-  a1 = front len zeros 0xFF
-
-  abbrev a2 : List ℕ
-  a2 = a1 ++ beBytes 2 x
-
-  abbrev a3 : List ℕ
-  a3 = a2 ++ m
-
-  abbrev a4 : List ℕ
-  a4 = a3 ++ beBytes 2 y
-
-  abbrev a5 : List ℕ
-  a5 = a4 ++ t
-
-  l1 : length a1 ≡ 18
-  l1 = front-length len zeros 0xFF refl
-
-  l2 : length a2 ≡ 20
-  l2 = omega (arith, length-append a1 (beBytes 2 x), length-beBytes 2 x, l1)
-
-  l3 : length a3 ≡ 20 + x
-  l3 = omega (arith, length-append a2 m, l2)
-
-  l4 : length a4 ≡ 22 + x
-  l4 = omega (arith, length-append a3 (beBytes 2 y), length-beBytes 2 y, l3)
-
-  l5 : length a5 ≡ 22 + x + y
-  l5 = omega (arith, length-append a4 t, l4)
-
-  together : a5 ++ replicate pad 0 ≡ a1 ++ (sectionBytes m t ++ replicate pad 0)
-  unfolding sectionBytes
-  together = simp append-assoc
-
-  pub runs : sets
-      (sets (sets (sets (sets (sets l 0 a1) 18 (beBytes 2 x)) 20 m) (20 + x) (beBytes 2 y)) (22 + x) t)
-      (22 + x + y)
-      (replicate pad 0)
-      ≡ sets l 0 (a1 ++ (sectionBytes m t ++ replicate pad 0))
-  runs =
-      rw (
-        run-more a1 (beBytes 2 x) l 18 l1,
-        run-more a2 m l 20 l2,
-        run-more a3 (beBytes 2 y) l (20 + x) l3,
-        run-more a4 t l (22 + x) l4,
-        run-more a5 (replicate pad 0) l (22 + x + y) l5,
-      )
-      (ap (sets l 0) together)
+-- the six runs of a packet
+runs : (l m t : List ℕ) (len pad : ℕ) → sets
+    (sets (sets (sets (sets (sets l 0 (front len zeros 0xFF)) 18 (beBytes 2 (length m))) 20 m) (20 + length m) (beBytes 2 (length t))) (22 + length m) t)
+    (22 + length m + length t)
+    (replicate pad 0)
+    ≡ sets l 0 (front len zeros 0xFF ++ (sectionBytes m t ++ replicate pad 0))
+unfolding sectionBytes
+runs l m t len pad =
+    let x = length m in
+    let r4 = t ++ replicate pad 0 in
+    let r3 = beBytes 2 (length t) ++ r4 in
+    let r2 = m ++ r3 in
+    let r1 = beBytes 2 x ++ r2 in
+    let l1 = sets l 0 (front len zeros 0xFF) in
+    let l2 = sets l1 18 (beBytes 2 x) in
+    let l3 = sets l2 20 m in
+    let l4 = sets l3 (20 + x) (beBytes 2 (length t)) in
+    simp append-assoc
+    (sym
+    (two-runs (front len zeros 0xFF) r1 l 0 18 (omega (arith, front-length len zeros 0xFF refl))
+    ∙ two-runs (beBytes 2 x) r2 l1 18 20 (omega (arith, length-beBytes 2 x))
+    ∙ two-runs m r3 l2 20 (20 + x) refl
+    ∙ two-runs (beBytes 2 (length t)) r4 l3 (20 + x) (22 + x) (omega (arith, length-beBytes 2 (length t)))
+    ∙ two-runs t (replicate pad 0) l4 (22 + x) (22 + x + length t) refl))
 
 -- the packet of an input
 module _ (text ms ts : List ℕ) where

@@ -41,7 +41,7 @@ fn slot_size(s: Slot) -> usize
 
 // The bytes that the items of n slots take, from a word on.
 fn slots_size(ws: &[u64], at: usize, tag: u8, n: usize) -> usize
-    requires { ⌜ (at + 3 * n ≤ length (now ws)) × (tag + n < 256) ⌝ }
+    requires { ⌜ (at + 3 * n ≤ length (now ws)) × (tag + n < 256) × (slotsSize (slots n (now ws) at tag) ≤ 34688) ⌝ }
     ensures { λ r. ⌜ r ≡ slotsSize (slots n (now (ws .entry)) at tag) ⌝ }
 {
     let mut total: usize = 0;
@@ -172,7 +172,12 @@ fn put_track(out: &mut [u8], pos: usize, text: &[u8], ts: &[u64], at: usize, siz
     requires { ⌜ (at + 23 ≤ length (now ts)) × (size ≡ slotsSize (trackAt (now ts) at .slots)) × (pos + 4 + size ≤ length (now out)) × (slotsFault (now text) (trackAt (now ts) at .slots) ≡ 0) × (getD (now ts) at 0 < 128) × (getD (now ts) (at + 1) 0 < 64) ⌝ }
     ensures { λ _. ⌜ now (out .exit) ≡ sets (now (out .entry)) pos (tracksBytes (now (text .entry)) (trackAt (now (ts .entry)) at ∷ [])) ⌝ }
 {
-    put_two(out, pos, (0x80 + ts[at]) as u8, (0xC0 + ts[at + map_given::ID]) as u8);
+    put_two(
+        out,
+        pos,
+        (0x80 + ts[at]) as u8,
+        (0xC0 + ts[at + map_given::ID]) as u8,
+    );
     number::put_be(out, pos + 2, size, 2);
     put_slots(out, pos + 4, text, ts, at + map_given::NAME, 0x4C, 7);
 }

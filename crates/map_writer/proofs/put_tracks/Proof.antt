@@ -10,6 +10,7 @@ use lib.Seq.{sets}
 use Rattle.map_given.specs.Given.{tracksGiven}
 use Rattle.map_writer.specs.Inside.{tracksBytes}
 use Rattle.map_writer.proofs.PutTracks.{TracksLeft, track-clean, track-narrow, track-type, track-room, tracks-turn, tracks-done}
+use Rattle.map_writer.proofs.Bounds.{track-most}
 use Rattle.map_given.proofs.Clean.{ids-narrow}
 
 abbrev Inv-loop : tie.InvT-loop
@@ -27,7 +28,7 @@ add-slots-size : tie.Need-add-slots-size Inv-loop μ-loop
 add-slots-size c = search needs
 
 slots-size-requires : tie.Need-slots-size-requires Inv-loop μ-loop
-slots-size-requires c κs = search needs
+slots-size-requires c κs = let l = c .before .loop in (omega (arith, l .inv .words), omega arith, omega (arith, track-most (c .before .before .before .before .before .args .text .now) (c .before .before .before .before .before .args .ts .now) (l .at) (track-clean _ _ _ _ _ _ _ _ (c .loop-test .taken) (l .inv) .0)))
 
 put-track-requires : tie.Need-put-track-requires Inv-loop μ-loop
 put-track-requires c κs =

@@ -6,7 +6,7 @@ use native.Mathlib.Omega.{arith}
 use mathlib.Core.Path.{_≡_, _∙_, ap}
 use Prim.Native.Nat.{_+_, _*_, _≤_, _<_}
 use lib.ListN.{length}
-use Rattle.map_writer.proofs.Laws.{slots-under, slots-size-turn, slots-size-out}
+use Rattle.map_writer.proofs.Laws.{slots-size-turn, slots-size-out}
 use Rattle.map_writer.specs.Inside.{slotSize, slotsSize}
 use Rattle.map_given.specs.Given.{slots}
 
@@ -30,7 +30,7 @@ add-total : tie.Need-add-total Inv-loop μ-loop
 add-total c =
     let l = c .before .before .before .loop in let a = c .before .before .before .before .before .args in
     let e = c .slot-size .ensures ∙ ap slotSize (c .before .slot-at .ensures) in
-    omega (arith, slots-size-turn (a .ws .now) (l .left) (l .place) (l .next) (c .before .before .loop-test .taken), slots-under (a .n) (a .ws .now) (a .at) (a .tag), l .inv .2, e)
+    omega (arith, slots-size-turn (a .ws .now) (l .left) (l .place) (l .next) (c .before .before .loop-test .taken), c .before .before .before .before .before .pre .2, l .inv .2, e)
 
 add-place : tie.Need-add-place Inv-loop μ-loop
 add-place c = search needs

@@ -23,7 +23,7 @@ add-slots-size : tie.Need-add-slots-size Inv-loop μ-loop
 add-slots-size c = search needs
 
 slots-size-requires : tie.Need-slots-size-requires Inv-loop μ-loop
-slots-size-requires c κs = search needs
+slots-size-requires c κs = let l = c .before .loop in (omega (arith, l .inv .0), omega arith, omega (arith, c .before .before .before .pre, tracks-size-turn (c .before .before .before .args .ts .now) (l .left) (l .at) (c .loop-test .taken), l .inv .1))
 
 add-total : tie.Need-add-total Inv-loop μ-loop
 add-total c = let l = c .before .before .loop in let a = c .before .before .before .before .args in omega (arith, c .before .before .before .before .pre, tracks-size-turn (a .ts .now) (l .left) (l .at) (c .before .loop-test .taken), l .inv .1, c .slots-size .ensures)

@@ -27,7 +27,7 @@ returns c =
     (ap Refused (c .refuse .ensures) ∙ sym (w .0), sym (w .1))
 
 slots-size-requires : tie.Need-slots-size-requires
-slots-size-requires c κs = let g = clean _ _ _ (sym (c .before .fault .ensures) ∙ c .if1 .left) in (omega (arith, g .words), omega arith)
+slots-size-requires c κs = let g = clean _ _ _ (sym (c .before .fault .ensures) ∙ c .if1 .left) in (omega (arith, g .words), omega arith, omega (arith, material-most (c .before .before .before .before .before .before .args .material .now)))
 
 tracks-size-requires : tie.Need-tracks-size-requires
 tracks-size-requires c κs = section-most _ _ _ (clean _ _ _ (sym (c .before .before .fault .ensures) ∙ c .before .if1 .left))
