@@ -1,4 +1,4 @@
--- Demand 2, writers: what is written reads back as what was given. Proved in proofs/ReadsBack.antt.
+-- Demand 2, writers: what is written reads back as what was given, what is written and what is refused, and the room that is enough. Proved in proofs/ReadsBack.antt.
 -- `ReadBack` of each writer says what the definitions of the readers give at the place, and that the bytes before and after the packet are as they were; `Readers` says it of whatever the
 -- readers' contracts allow there. Both speak of what was given alone: a map's view (map_writer/specs/ViewGiven.antt), a table's step and entries.
 use Prim.Native.Nat.{ℕ, _+_, _*_, _≤_}
@@ -32,9 +32,13 @@ pub record ReadsBack : Type 0 where
       → (x : WriteAnswer) (o : List ℕ) → WritesMap out at text ms ts x o → x ≡ write.Length (length (mapPacket text ms ts))
   pub locator-writes : (out : List ℕ) (at step : ℕ) (ns : List ℕ) → mayWrite step ns ≡ true → at + (24 + 4 * length ns) ≤ length out
       → (x : WriteAnswer) (o : List ℕ) → WritesLocator out at step ns x o → x ≡ write.Length (24 + 4 * length ns)
-  -- how long a map can be: the bounds, and a map that reaches them
+  -- how long a map can be: the bounds, and a map that reaches them; a length that is answered is 35,000 at most
   pub largest : Largest
-  -- 35,000 bytes from the place on are room enough for every map: no call is refused with 13 there
+  pub map-length : (out : List ℕ) (at : ℕ) (text ms ts : List ℕ) (n : ℕ) (o : List ℕ) → WritesMap out at text ms ts (write.Length n) o → n ≤ 35000
+  -- so 35,000 bytes from the place on are room enough for every map: no call is refused with 13 there
   pub map-room : (out : List ℕ) (at : ℕ) (text ms ts : List ℕ) → at + 35000 ≤ length out → (r : Refusal) (o : List ℕ) → WritesMap out at text ms ts (write.Refused r) o → r .number ≡ 13 → ⊥
-  -- and a refusal is 24, 11, 10 or 13
-  pub map-numbers : (out : List ℕ) (at : ℕ) (text ms ts : List ℕ) (r : Refusal) (o : List ℕ) → WritesMap out at text ms ts (write.Refused r) o → has (r .number) (24 ∷ 11 ∷ 10 ∷ 13 ∷ []) ≡ true
+  -- which refusals there are, all of them at place 0: of a map 24, 11, 10 and 13, of a table 24 and 13; which of them, and when, is `AsDefined`'s
+  pub map-refusals : (out : List ℕ) (at : ℕ) (text ms ts : List ℕ) (r : Refusal) (o : List ℕ) → WritesMap out at text ms ts (write.Refused r) o
+      → (has (r .number) (24 ∷ 11 ∷ 10 ∷ 13 ∷ []) ≡ true) × (r .place ≡ 0)
+  pub locator-refusals : (out : List ℕ) (at step : ℕ) (ns : List ℕ) (r : Refusal) (o : List ℕ) → WritesLocator out at step ns (write.Refused r) o
+      → (has (r .number) (24 ∷ 13 ∷ []) ≡ true) × (r .place ≡ 0)

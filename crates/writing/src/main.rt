@@ -1,4 +1,4 @@
-// The writers at work, and their bench readings: the map M written from words and read back, a field number of 33 bits, a place beyond all buffers, and a locator table.
+// The writers at work, and their bench readings: the map M written from words and read back, a field number of 33 bits, a place beyond all buffers, the largest map, and a locator table.
 use console::figure;
 use console::say;
 use locator::PositionAnswer;
@@ -117,6 +117,58 @@ fn write_first_field(first: u64, at: usize) {
     show_answer(map_writer::write(&mut out, at, b"", &material, &track[0..0]));
 }
 
+// The material of the largest map: the text as its name, and 1 for each number.
+fn fill_material(material: &mut [u64]) {
+    set_slot(material, map_given::MATERIAL_NAME, 0, 254);
+    set_slot(material, map_given::FIRST_FIELD, 1, 0);
+    set_slot(material, map_given::LAST_FIELD, 1, 0);
+    set_slot(material, map_given::MARK_IN, 1, 0);
+    set_slot(material, map_given::MARK_OUT, 1, 0);
+    set_slot(material, map_given::SIZE, 1, 0);
+}
+
+// A track of the largest map: type 11, the text as its name and its 4F, and 1 for each number and code.
+fn fill_track(track: &mut [u64], id: u64) {
+    if track.len() < map_given::TRACK_WORDS {
+        return;
+    }
+    track[map_given::TYPE] = 11;
+    track[map_given::ID] = id;
+    set_slot(track, map_given::NAME, 0, 254);
+    set_slot(track, map_given::VERSION, 1, 0);
+    set_slot(track, map_given::MPEG, 0, 254);
+    set_slot(track, map_given::RATE, 1, 0);
+    set_slot(track, map_given::LINES, 1, 0);
+    set_slot(track, map_given::FIELDS, 1, 0);
+}
+
+// Its tracks, with IDs from 0 on.
+fn fill_tracks(tracks: &mut [u64]) {
+    let mut at: usize = 0;
+    let mut id: u64 = 0;
+    while id < 64 {
+        if tracks.len() < at {
+            return;
+        }
+        fill_track(&mut tracks[at..], id);
+        at += map_given::TRACK_WORDS;
+        id += 1;
+    }
+}
+
+// The largest map, in a room of its length, and in one of a byte less.
+fn write_largest() {
+    let text = [0x41u8; 254];
+    let mut material = [0u64; 18];
+    fill_material(&mut material);
+    let mut tracks = [0u64; 1472];
+    fill_tracks(&mut tracks);
+    let mut out = [7u8; 35000];
+    show_answer(map_writer::write(&mut out, 0, &text, &material, &tracks));
+    show_answer(map_writer::write(&mut out, 1, &text, &material, &tracks));
+    show_map(&out, 0);
+}
+
 // Step 40, one entry 4,194,304: distance 39 is at 4,294,967,296.
 fn write_locator() {
     let offsets = [4194304u64; 1];
@@ -139,5 +191,6 @@ fn main() {
     write_first_field(4294967295, 0);
     write_first_field(4294967296, 0);
     write_first_field(0, 0xFFFF_FFFF_FFFF_FFFF);
+    write_largest();
     write_locator();
 }
