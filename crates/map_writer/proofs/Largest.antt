@@ -2,7 +2,7 @@
 use Prim.Native.Nat.{ℕ, _+_, _-_, _/_, _<_, _≤_}
 use mathlib.Core.Path.{_≡_, refl, _∙_, ap}
 use mathlib.Core.Bool.{Bool, true, false}
-use mathlib.Core.List.{List, [], _∷_}
+use mathlib.Core.List.{List, [], _∷_, map}
 use native.Mathlib.Omega.{arith}
 use borrow.Author.Tests.{lt-ltb, eqb-true, eqb-false}
 use lib.ListN.{length, length-map}
@@ -11,7 +11,7 @@ use Rattle.plate.specs.Choice.{pick}
 use Rattle.plate.specs.Plate.{refusal}
 use Rattle.plate.specs.declared.Refusal.{Refusal}
 use Rattle.map_items.specs.Judge.{has}
-use Rattle.map.specs.Encode.{padding}
+use Rattle.map.specs.Encode.{TrackParts, padding}
 use Rattle.map.proofs.Encoded.{padding-under}
 use Rattle.packet_writer.specs.Write.{refused}
 use Rattle.packet_writer.specs.declared.WriteAnswer.the-variants.{Length, Refused}
@@ -21,11 +21,16 @@ use Rattle.map_given.proofs.Clean.{Clean, clean, most-64}
 use Rattle.map_given.proofs.Numbers.{fault-named, fault-among, not-13}
 use Rattle.map_writer.specs.Inside.{slotsSize, tracksSize, tracksBytes}
 use Rattle.map_writer.specs.Write.{partsOfTrack, partsGiven, mapPacket, mapAnswer}
-use Rattle.map_writer.specs.Largest.{Sizes, largestText, largestMaterial, largestTracks, Largest}
+use Rattle.map_writer.specs.Largest.{trackLength, Each, Sizes, largestText, largestMaterial, largestTracks, Largest}
 use Rattle.map_writer.proofs.Packet.{material-size, tracks-size, packet-size, faulty}
 use Rattle.map_writer.proofs.Worked.{largest-sound, largest-material, largest-tracks}
 use Rattle.map_writer.proofs.RoundTrip.{answered, accepted}
 use Rattle.map_writer.proofs.Bounds.{material-most, tracks-most, section-most}
+
+-- from one bound to another
+each-as : {P Q : ℕ → Type 0} → ((n : ℕ) → P n → Q n) → (ts : List TrackParts) → Each P ts → Each Q ts
+each-as f [] e = tt
+each-as f (t ∷ ts) e = (f (trackLength t) (e .0), each-as f ts (e .1))
 
 -- the sizes of an input without fault
 module _ (text ms ts : List ℕ) (c : Clean text ms ts) where
@@ -38,7 +43,7 @@ module _ (text ms ts : List ℕ) (c : Clean text ms ts) where
       let b = section-most text ms ts c in
       record {
         count = omega (arith, most-64 (tracksGiven ts) (c .ids), length-map (tracksGiven ts) (partsOfTrack text));
-        track = tracks-most text ts (length ts / 23) 0 (c .tracks) .1;
+        track = each-as (λ n h. omega arith) (map (partsOfTrack text) (tracksGiven ts)) (tracks-most text ts (length ts / 23) 0 (c .tracks) .1);
         trackSection = omega arith;
         materialSection = omega arith;
         used = omega arith;
@@ -103,8 +108,8 @@ largest =
       lengths = lengths;
       sound = largest-sound;
       reached = reached;
-      written = written;
-      never-13 = never-13;
+      written = λ out at text ms ts h. written out at text ms ts (omega (arith, h));
+      never-13 = λ out at text ms ts r h. never-13 out at text ms ts r (omega (arith, h));
       fewer-13 = fewer-13;
       refusals = refusals;
     }
