@@ -8,3 +8,4 @@ pub mod own;
 pub mod reference;
 pub mod request;
 pub mod rng;
+pub mod table;

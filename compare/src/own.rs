@@ -9,6 +9,7 @@ use crate::reference::walker::Walker;
 use crate::reference::{book, locator, name, stream, write};
 use crate::request::{answer, hex, lent_room, read, Read, BUILD, WRITE_FLT, WRITE_MAP};
 use crate::rng::Rng;
+use crate::table::off_plate;
 
 /// One kind of check: how often it was made and what went wrong first.
 pub struct Tally {
@@ -42,11 +43,12 @@ fn keeps(line: &str, claim: &str) -> bool {
     }
 }
 
-/// Claims, the format there and back, and rooms that a refusal leaves.
+/// Claims, the format there and back, rooms that a refusal leaves, and its number.
 fn claims(seed: u64, cases: u64) -> Vec<Tally> {
     let mut claims = Tally::new("line is as the case was made");
     let mut format = Tally::new("request read back from its bytes");
     let mut rooms = Tally::new("refused: the room is as it was");
+    let mut plate = Tally::new("refusals of the line are on the plate");
     for index in 0..cases {
         let Case {
             kind,
@@ -74,8 +76,10 @@ fn claims(seed: u64, cases: u64) -> Vec<Tally> {
             let kept = line.ends_with(&hex(&lent_room(room)));
             rooms.check(kept, || format!("{kind}, case {index}: {line}"));
         }
+        let known = off_plate(&line).is_none();
+        plate.check(known, || format!("{kind}, case {index}: {line}"));
     }
-    vec![claims, format, rooms]
+    vec![claims, format, rooms, plate]
 }
 
 fn at(bytes: &[u8], part: Option<Part>) -> Option<&[u8]> {
