@@ -8,3 +8,5 @@ pub mod own;
 pub mod reference;
 pub mod request;
 pub mod rng;
+pub mod size;
+pub mod table;

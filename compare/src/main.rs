@@ -5,7 +5,7 @@ use compare::own;
 use compare::reference::listing::listing;
 use compare::request::{answer, hex, Request, CHECK, MOST_BYTES, SHAPES};
 use compare::rng::Rng;
-use std::collections::BTreeMap;
+use compare::table::{agree, off_plate, Table};
 use std::fs::File;
 use std::io::{self, BufRead, BufReader, BufWriter, Read, Write};
 use std::process::{Command, ExitCode, Stdio};
@@ -97,85 +97,6 @@ fn options() -> Result<Options, String> {
     Ok(o)
 }
 
-/// How many cases of a kind were accepted, and refused by number.
-#[derive(Default)]
-struct Row {
-    cases: u64,
-    accepted: u64,
-    refused: BTreeMap<u8, u64>,
-    differences: u64,
-}
-
-#[derive(Default)]
-struct Table(BTreeMap<String, Row>);
-
-/// The number of the first refusal in a line; a walker's may stand behind accepted steps.
-fn refusal(line: &str) -> Option<u8> {
-    let mut words = line.split(' ');
-    words.find(|word| *word == "refused")?;
-    words.next()?.parse().ok()
-}
-
-impl Table {
-    fn count(&mut self, kind: &str, line: &str) {
-        let row = self.0.entry(kind.to_string()).or_default();
-        row.cases += 1;
-        match refusal(line) {
-            None => row.accepted += 1,
-            Some(number) => *row.refused.entry(number).or_default() += 1,
-        }
-    }
-
-    fn differs(&mut self, kind: &str) {
-        self.0.entry(kind.to_string()).or_default().differences += 1;
-    }
-
-    fn print(&self) {
-        println!(
-            "{:<28} {:>7} {:>9}  refused (number:cases)",
-            "kind", "cases", "accepted"
-        );
-        let mut all = Row::default();
-        for (kind, row) in &self.0 {
-            Self::line(kind, row);
-            all.cases += row.cases;
-            all.accepted += row.accepted;
-            for (number, cases) in &row.refused {
-                *all.refused.entry(*number).or_default() += cases;
-            }
-        }
-        Self::line("all", &all);
-        let missed: Vec<String> = (1..=27)
-            .filter(|number| !all.refused.contains_key(number))
-            .map(|number| number.to_string())
-            .collect();
-        if missed.is_empty() {
-            println!("refusals not reached: none");
-        } else {
-            println!("refusals not reached: {}", missed.join(" "));
-        }
-        // 64 tracks of at most 542 bytes, and 287 bytes of material
-        println!("(25 cannot be reached: an ID twice is 10, so a written section has at most 34,688 bytes)");
-    }
-
-    fn line(kind: &str, row: &Row) {
-        let mut refused: Vec<String> = row
-            .refused
-            .iter()
-            .map(|(n, c)| format!("{n}:{c}"))
-            .collect();
-        if row.differences > 0 {
-            refused.push(format!("({} differ)", row.differences));
-        }
-        println!(
-            "{kind:<28} {:>7} {:>9}  {}",
-            row.cases,
-            row.accepted,
-            refused.join(" ")
-        );
-    }
-}
-
 /// A case with its line; the request keeps the format's limits.
 fn made(seed: u64, index: u64) -> (Case, String) {
     let case = case(seed, index);
@@ -246,6 +167,9 @@ fn show_difference(kind: &str, index: u64, request: &Request, want: &str, got: O
     }
     println!("  expected {}", around(want, same));
     println!("  probe    {}", around(got, same));
+    if let Some(number) = off_plate(want) {
+        println!("  {number} is not on the plate");
+    }
 }
 
 /// Requests that end a run with `malformed`, each behind one good request.
@@ -305,7 +229,7 @@ fn compare(o: &Options, probe: &Program) -> io::Result<bool> {
         }
         let lines = ask(probe, input)?;
         for (i, want) in wanted.iter().enumerate() {
-            if lines.get(i) != Some(want) {
+            if !agree(want, lines.get(i).map(String::as_str)) {
                 differences += 1;
                 let index = from + i as u64;
                 let case = case(o.seed, index);
@@ -383,7 +307,7 @@ fn compare_listing(seed: u64, streams: u64, program: &Program) -> io::Result<u64
         empty += u64::from(input.is_empty());
         too_long += u64::from(input.len() as u64 > MOST_BYTES);
         let got = ask(program, input.clone())?.concat();
-        if got != want {
+        if !agree(&want, Some(&got)) {
             differences += 1;
             if differences <= SHOWN {
                 println!("difference: listing of {}", around(&hex(input), 0));
@@ -399,8 +323,8 @@ fn compare_listing(seed: u64, streams: u64, program: &Program) -> io::Result<u64
     Ok(differences)
 }
 
-/// Requests and expected lines as two files.
-fn to_files(o: &Options, requests: &str, expected: &str) -> io::Result<()> {
+/// Requests and expected lines as two files; false if a line has a refusal that is not on the plate.
+fn to_files(o: &Options, requests: &str, expected: &str) -> io::Result<bool> {
     let mut table = Table::default();
     let mut asked = BufWriter::new(File::create(requests)?);
     let mut told = BufWriter::new(File::create(expected)?);
@@ -414,7 +338,7 @@ fn to_files(o: &Options, requests: &str, expected: &str) -> io::Result<()> {
     told.flush()?;
     table.print();
     println!("cases: {}, seed: {}", o.cases, o.seed);
-    Ok(())
+    Ok(table.strange().is_empty())
 }
 
 fn own_check(o: &Options) -> bool {
@@ -446,9 +370,7 @@ fn run(o: &Options) -> io::Result<bool> {
     match (&o.probe, &o.listing, &o.requests, &o.expected) {
         (Some(probe), _, None, None) => compare(o, probe),
         (None, Some(listing), None, None) => Ok(compare_listing(o.seed, o.cases, listing)? == 0),
-        (None, None, Some(requests), Some(expected)) => {
-            to_files(o, requests, expected).map(|()| true)
-        }
+        (None, None, Some(requests), Some(expected)) => to_files(o, requests, expected),
         _ => {
             eprintln!("{USAGE}");
             Ok(false)

@@ -7,8 +7,12 @@ use crate::reference::map::{map, Map, Part};
 use crate::reference::plate::Answer;
 use crate::reference::walker::Walker;
 use crate::reference::{book, locator, name, stream, write};
-use crate::request::{answer, hex, lent_room, read, Read, BUILD, WRITE_FLT, WRITE_MAP};
+use crate::request::{
+    answer, hex, lent_room, read, words, Read, Request, BUILD, WRITE_FLT, WRITE_MAP,
+};
 use crate::rng::Rng;
+use crate::size::{Size, MOST};
+use crate::table::off_plate;
 
 /// One kind of check: how often it was made and what went wrong first.
 pub struct Tally {
@@ -42,11 +46,12 @@ fn keeps(line: &str, claim: &str) -> bool {
     }
 }
 
-/// Claims, the format there and back, and rooms that a refusal leaves.
+/// Claims, the format there and back, rooms that a refusal leaves, and its number.
 fn claims(seed: u64, cases: u64) -> Vec<Tally> {
     let mut claims = Tally::new("line is as the case was made");
     let mut format = Tally::new("request read back from its bytes");
     let mut rooms = Tally::new("refused: the room is as it was");
+    let mut plate = Tally::new("refusals of the line are on the plate");
     for index in 0..cases {
         let Case {
             kind,
@@ -74,8 +79,60 @@ fn claims(seed: u64, cases: u64) -> Vec<Tally> {
             let kept = line.ends_with(&hex(&lent_room(room)));
             rooms.check(kept, || format!("{kind}, case {index}: {line}"));
         }
+        let known = off_plate(&line).is_none();
+        plate.check(known, || format!("{kind}, case {index}: {line}"));
     }
-    vec![claims, format, rooms]
+    vec![claims, format, rooms, plate]
+}
+
+/// What a request to the map writer gives at this place of a room of this length, and the room behind it.
+fn write_at(request: &Request, at: u64, room: u64) -> (Answer<u64>, Vec<u8>) {
+    let mut room = lent_room(room);
+    let s = &request.strings;
+    let done = write::write_map(&mut room, at, &s[0], &words(&s[1]), &words(&s[2]));
+    (done, room)
+}
+
+/// 02, §9: 35,000 bytes from the place on are room for every map. It is not 13 there, and else what it is in the case's own room.
+fn ample_room(request: &Request) -> bool {
+    let (at, room) = (request.numbers[0], request.numbers[1]);
+    let most = MOST.packet as u64;
+    let place = at.min(99);
+    let ample = write_at(request, place, place + most).0;
+    let own = write_at(request, at, room).0;
+    let is_short = u128::from(at) + u128::from(most) > u128::from(room);
+    match own {
+        Err(refusal) if refusal.number == 13 => is_short && ample.is_ok(),
+        _ => own == ample,
+    }
+}
+
+/// The packet that a request to the map writer leaves in its room; none where it is refused.
+pub fn written(request: &Request) -> Option<Vec<u8>> {
+    let (at, room) = (request.numbers[0], request.numbers[1]);
+    let (done, room) = write_at(request, at, room);
+    let length = done.ok()?;
+    Some(room[at as usize..(at + length) as usize].to_vec())
+}
+
+/// The bounds of 02, §9 in every case of the map writer.
+fn sizes(seed: u64, cases: u64) -> Vec<Tally> {
+    let mut rooms = Tally::new("map writer: 35,000 bytes are room for every map");
+    let mut bounds = Tally::new("map writer: the packet keeps the five bounds");
+    for index in 0..cases {
+        let Case { kind, request, .. } = case(seed, index);
+        if request.function != WRITE_MAP {
+            continue;
+        }
+        rooms.check(ample_room(&request), || format!("{kind}, case {index}"));
+        if let Some(packet) = written(&request) {
+            let size = Size::of(&packet);
+            bounds.check(size.is_some_and(Size::keeps_bounds), || {
+                format!("{kind}, case {index}: {size:?}")
+            });
+        }
+    }
+    vec![rooms, bounds]
 }
 
 fn at(bytes: &[u8], part: Option<Part>) -> Option<&[u8]> {
@@ -307,6 +364,7 @@ fn damaged_bench() -> Vec<Tally> {
 pub fn run(seed: u64, cases: u64) -> Vec<Tally> {
     let part = cases / 10 + 1;
     let mut all = claims(seed, cases);
+    all.extend(sizes(seed, cases));
     all.extend(twins(seed, part));
     all.extend(round_trips(seed, part));
     all.extend(streams_agree(seed, part));

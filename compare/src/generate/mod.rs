@@ -19,7 +19,7 @@ pub struct Case {
 }
 
 pub type Made = (Request, Option<String>);
-type Maker = fn(&mut Rng) -> Made;
+pub type Maker = fn(&mut Rng) -> Made;
 
 /// Kinds of cases, taken in turn. The first word is the function.
 pub const KINDS: [(&str, Maker); 58] = [
@@ -83,14 +83,24 @@ pub const KINDS: [(&str, Maker); 58] = [
     ("walker damage", streams::walk_damage),
 ];
 
-/// The case of a seed and a number; one in a thousand is large.
+/// The kind of a number. One in a thousand is large; every fourth turn of the map writer's rooms is at its bounds, and long.
+pub fn kind_of(index: u64) -> (&'static str, Maker) {
+    let kinds = KINDS.len() as u64;
+    if index % 1_000 == 999 {
+        return ("large", large::large);
+    }
+    match KINDS[(index % kinds) as usize] {
+        ("map writer room", _) if index / kinds % 4 == 3 => {
+            ("map writer bounds", writers::map_bounds)
+        }
+        plain => plain,
+    }
+}
+
+/// The case of a seed and a number.
 pub fn case(seed: u64, index: u64) -> Case {
     let mut rng = Rng::new(seed, index);
-    let (kind, make) = if index % 1_000 == 999 {
-        ("large", large::large as Maker)
-    } else {
-        KINDS[(index % KINDS.len() as u64) as usize]
-    };
+    let (kind, make) = kind_of(index);
     let (request, claim) = make(&mut rng);
     Case {
         kind,

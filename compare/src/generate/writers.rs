@@ -4,6 +4,7 @@ use super::packets::{flt_payload, packet, KNOWN_TYPES};
 use super::Made;
 use crate::request::{hex, lent_room, word_bytes, Request, WRITE_FLT, WRITE_MAP};
 use crate::rng::{Rng, EDGES};
+use crate::size::MOST;
 
 /// A place and a room for a packet of this length; `fits` says whether they do.
 fn room_for(rng: &mut Rng, length: usize) -> (u64, u64, bool) {
@@ -90,12 +91,15 @@ pub fn flt_edges(rng: &mut Rng) -> Made {
 /// The three words of a slot.
 type Slot = [u64; 3];
 
+/// A track: type, ID, slots.
+type Row = (u64, u64, [Slot; 7]);
+
 /// The writer's input, before it is made words.
 #[derive(Clone)]
 pub struct Input {
     pub text: Vec<u8>,
     pub material: [Slot; 6],
-    pub tracks: Vec<(u64, u64, [Slot; 7])>,
+    pub tracks: Vec<Row>,
 }
 
 /// An absent slot, whose a and b are not looked at.
@@ -117,6 +121,11 @@ fn text_slot(rng: &mut Rng, text: &mut Vec<u8>, empty: bool) -> Slot {
         1 => 253,
         _ => 1 + rng.below(9),
     };
+    own_text(rng, text, n)
+}
+
+/// A good text of so many bytes, behind all that stands in the lent text.
+fn own_text(rng: &mut Rng, text: &mut Vec<u8>, n: usize) -> Slot {
     let place = text.len();
     text.extend((0..n).map(|_| {
         if rng.chance(1, 10) {
@@ -128,129 +137,153 @@ fn text_slot(rng: &mut Rng, text: &mut Vec<u8>, empty: bool) -> Slot {
     [1, place as u64, n as u64]
 }
 
+/// A 4D of its own: 00 and bytes over 7F are fine in it.
+fn binary_slot(rng: &mut Rng, text: &mut Vec<u8>) -> Slot {
+    let place = text.len() as u64;
+    text.extend(rng.bytes(8));
+    [1, place, 8]
+}
+
 fn number_slot(rng: &mut Rng) -> Slot {
     [1, u64::from(rng.edge32()), rng.edge()]
 }
 
-fn code_slot(rng: &mut Rng, listed: &[i64]) -> Slot {
+/// The slots of codes and their listed values.
+const CODES: [(usize, &[u64]); 3] = [
+    (4, &[1, 2, 3, 4, 5, 6, 7, 8]),
+    (5, &[1, 2, 4, 6]),
+    (6, &[1, 2]),
+];
+const MINUS: [u64; 2] = [u64::MAX, u64::MAX - 1];
+
+fn code_slot(rng: &mut Rng, listed: &[u64]) -> Slot {
     let code = if rng.chance(1, 4) {
-        rng.pick(&[-1, -2])
+        rng.pick(&MINUS)
     } else {
         rng.pick(listed)
     };
-    [1, code as u64, rng.edge()]
+    [1, code, rng.edge()]
 }
 
-/// An input that is accepted, and the packet that it gives.
-pub fn good(rng: &mut Rng) -> (Input, Vec<u8>) {
-    let mut text = Vec::new();
+/// Any of the material items.
+fn some_material(rng: &mut Rng, text: &mut Vec<u8>) -> [Slot; 6] {
     let mut material: [Slot; 6] = [[0; 3]; 6];
-    let mut items: Vec<u8> = Vec::new();
     let null = rng.chance(1, 5);
     for (i, slot) in material.iter_mut().enumerate() {
         *slot = if rng.chance(1, 2) {
             absent(rng)
         } else if i == 0 {
-            text_slot(rng, &mut text, null)
+            text_slot(rng, text, null)
         } else {
             number_slot(rng)
         };
     }
-    let mut ids: Vec<u8> = (0..64).collect();
+    material
+}
+
+/// A track of this ID without items.
+fn bare_row(rng: &mut Rng, id: u64) -> Row {
+    let kind = rng.pick(&KNOWN_TYPES);
+    let mut slots: [Slot; 7] = [[0; 3]; 7];
+    for slot in &mut slots {
+        *slot = absent(rng);
+    }
+    (u64::from(kind), id, slots)
+}
+
+/// A track of this ID with any of the items that may stand together.
+fn some_row(rng: &mut Rng, text: &mut Vec<u8>, id: u64) -> Row {
+    let (kind, id, mut slots) = bare_row(rng, id);
+    let null = rng.chance(1, 5);
+    if rng.chance(2, 3) || null {
+        slots[0] = text_slot(rng, text, null);
+    }
+    if !null {
+        match rng.below(3) {
+            0 => slots[1] = binary_slot(rng, text),
+            1 => {
+                let empty = rng.chance(1, 4);
+                slots[3] = text_slot(rng, text, empty);
+            }
+            _ => {}
+        }
+        if rng.chance(1, 2) {
+            slots[2] = number_slot(rng);
+        }
+    }
+    for (i, listed) in CODES {
+        if rng.chance(1, 2) {
+            slots[i] = code_slot(rng, listed);
+        }
+    }
+    (kind, id, slots)
+}
+
+/// The IDs 0 to 63 in any order.
+fn all_ids(rng: &mut Rng) -> Vec<u64> {
+    let mut ids: Vec<u64> = (0..64).collect();
     rng.shuffle(&mut ids);
+    ids
+}
+
+/// An input that is accepted, and the packet that it gives.
+pub fn good(rng: &mut Rng) -> (Input, Vec<u8>) {
+    let mut text = Vec::new();
+    let material = some_material(rng, &mut text);
+    let ids = all_ids(rng);
     let n = if rng.chance(1, 40) { 64 } else { rng.below(5) };
     let mut tracks = Vec::new();
     for id in ids.into_iter().take(n) {
-        let kind = rng.pick(&KNOWN_TYPES);
-        let mut slots: [Slot; 7] = [[0; 3]; 7];
-        for slot in &mut slots {
-            *slot = absent(rng);
-        }
-        let null = rng.chance(1, 5);
-        if rng.chance(2, 3) || null {
-            slots[0] = text_slot(rng, &mut text, null);
-        }
-        if !null {
-            match rng.below(3) {
-                0 => {
-                    slots[1] = [1, text.len() as u64, 8];
-                    let any = rng.bytes(8); // 00 and bytes over 7F are fine in 4D
-                    text.extend(any);
-                }
-                1 => {
-                    let empty = rng.chance(1, 4);
-                    slots[3] = text_slot(rng, &mut text, empty);
-                }
-                _ => {}
-            }
-            if rng.chance(1, 2) {
-                slots[2] = number_slot(rng);
-            }
-        }
-        if rng.chance(1, 2) {
-            slots[4] = code_slot(rng, &[1, 2, 3, 4, 5, 6, 7, 8]);
-        }
-        if rng.chance(1, 2) {
-            slots[5] = code_slot(rng, &[1, 2, 4, 6]);
-        }
-        if rng.chance(1, 2) {
-            slots[6] = code_slot(rng, &[1, 2]);
-        }
-        tracks.push((u64::from(kind), u64::from(id), slots));
+        tracks.push(some_row(rng, &mut text, id));
     }
     if rng.chance(1, 3) {
         text.push(0x41);
     }
-    // the packet, put together by the tags
-    let put = |items: &mut Vec<u8>, tag: u8, slot: &Slot| {
-        if slot[0] == 0 {
-            return;
-        }
-        let (a, b) = (slot[1] as usize, slot[2] as usize);
-        match tag {
-            0x40 | 0x4C | 0x4F => {
-                items.extend([tag, b as u8 + 1]);
-                items.extend(&text[a..a + b]);
-                items.push(0);
-            }
-            0x4D => {
-                items.extend([tag, 8]);
-                items.extend(&text[a..a + 8]);
-            }
-            _ => {
-                items.extend([tag, 4]);
-                items.extend((slot[1] as u32).to_be_bytes());
-            }
-        }
-    };
-    for (tag, slot) in (0x40..).zip(&material) {
-        put(&mut items, tag, slot);
-    }
-    let mut payload = vec![0xE0, 0xFF];
-    payload.extend((items.len() as u16).to_be_bytes());
-    payload.extend(&items);
-    let mut section = Vec::new();
-    for (kind, id, slots) in &tracks {
-        let mut items = Vec::new();
-        for (tag, slot) in (0x4C..).zip(slots) {
-            put(&mut items, tag, slot);
-        }
-        section.extend([0x80 + *kind as u8, 0xC0 + *id as u8]);
-        section.extend((items.len() as u16).to_be_bytes());
-        section.extend(items);
-    }
-    payload.extend((section.len() as u16).to_be_bytes());
-    payload.extend(section);
-    let bytes = packet(0xBC, &payload);
     let input = Input {
         text,
         material,
         tracks,
     };
+    let bytes = input.packet();
     (input, bytes)
 }
 
+/// A 16-bit length and its bytes.
+fn counted(bytes: Vec<u8>) -> Vec<u8> {
+    [&(bytes.len() as u16).to_be_bytes(), &bytes[..]].concat()
+}
+
 impl Input {
+    /// The item of a slot, put together by its tag.
+    fn item(&self, tag: u8, slot: &Slot) -> Vec<u8> {
+        let (a, b) = (slot[1] as usize, slot[2] as usize);
+        match tag {
+            _ if slot[0] == 0 => vec![],
+            0x40 | 0x4C | 0x4F => [&[tag, b as u8 + 1], &self.text[a..a + b], &[0]].concat(),
+            0x4D => [&[tag, 8], &self.text[a..a + 8]].concat(),
+            _ => [&[tag, 4], &(slot[1] as u32).to_be_bytes()[..]].concat(),
+        }
+    }
+
+    /// A length and the items of slots whose tags rise from the first.
+    fn items(&self, first: u8, slots: &[Slot]) -> Vec<u8> {
+        let items = (first..).zip(slots).map(|(tag, slot)| self.item(tag, slot));
+        counted(items.flatten().collect())
+    }
+
+    /// The packet that the writer must give.
+    fn packet(&self) -> Vec<u8> {
+        let mut section = Vec::new();
+        for (kind, id, slots) in &self.tracks {
+            section.extend([0x80 + *kind as u8, 0xC0 + *id as u8]);
+            section.extend(self.items(0x4C, slots));
+        }
+        let mut payload = vec![0xE0, 0xFF];
+        payload.extend(self.items(0x40, &self.material));
+        payload.extend(counted(section));
+        packet(0xBC, &payload)
+    }
+
     pub fn words(&self) -> (Vec<u64>, Vec<u64>) {
         let material = self.material.concat();
         let mut tracks = Vec::new();
@@ -291,7 +324,7 @@ pub fn map_room(rng: &mut Rng) -> Made {
 }
 
 /// A track that is there, or a new one.
-fn some_track(input: &mut Input) -> &mut (u64, u64, [Slot; 7]) {
+fn some_track(input: &mut Input) -> &mut Row {
     if input.tracks.is_empty() {
         input.tracks.push((10, 1, [[0; 3]; 7]));
     }
@@ -307,14 +340,6 @@ fn off(rng: &mut Rng, good: &[u64]) -> u64 {
         }
     }
 }
-
-/// The slots of codes and their listed values.
-const CODES: [(usize, &[u64]); 3] = [
-    (4, &[1, 2, 3, 4, 5, 6, 7, 8]),
-    (5, &[1, 2, 4, 6]),
-    (6, &[1, 2]),
-];
-const MINUS: [u64; 2] = [u64::MAX, u64::MAX - 1];
 
 /// Sets in one reason for 24.
 fn bar(rng: &mut Rng, input: &mut Input) {
@@ -503,6 +528,189 @@ pub fn map_fault(rng: &mut Rng) -> Made {
         ask(at, room, &input.text, &material, &tracks),
         unwritten(number, room),
     )
+}
+
+/// The types of MPEG video, whose auxiliary form is 4F; that of all others is 4D (clause 7.1.3).
+const MPEG_TYPES: [u64; 5] = [11, 12, 20, 22, 23];
+
+/// The longest text that a writer is given.
+const LONGEST: usize = 254;
+
+/// Where texts are shared, they are parts of a beginning of so many bytes, and overlap.
+const BEGINNING: usize = 300;
+
+/// A lent text in which none, half or all of the longest texts are shared; the others are parts of their own.
+struct Lent {
+    text: Vec<u8>,
+    shared: usize, // of two
+}
+
+impl Lent {
+    fn new(rng: &mut Rng) -> Self {
+        let mut text = Vec::new();
+        own_text(rng, &mut text, BEGINNING);
+        let shared = rng.below(3);
+        Lent { text, shared }
+    }
+
+    fn longest(&mut self, rng: &mut Rng) -> Slot {
+        if rng.chance(self.shared, 2) {
+            let place = rng.below(BEGINNING - LONGEST + 1);
+            return [1, place as u64, LONGEST as u64];
+        }
+        own_text(rng, &mut self.text, LONGEST)
+    }
+}
+
+/// All items that may stand in a track, as long as they can be: 542 bytes with the header (02, §9).
+fn full_row(rng: &mut Rng, lent: &mut Lent, id: u64) -> Row {
+    let (_, id, mut slots) = bare_row(rng, id);
+    slots[0] = lent.longest(rng);
+    slots[2] = number_slot(rng);
+    slots[3] = lent.longest(rng);
+    for (i, listed) in CODES {
+        slots[i] = code_slot(rng, listed);
+    }
+    (rng.pick(&MPEG_TYPES), id, slots)
+}
+
+/// A map of such tracks, and 287 bytes of material.
+fn full(rng: &mut Rng, ids: &[u64]) -> Input {
+    let mut lent = Lent::new(rng);
+    let mut material = [[0; 3]; 6];
+    material[0] = lent.longest(rng);
+    for slot in &mut material[1..] {
+        *slot = number_slot(rng);
+    }
+    let tracks = ids.iter().map(|id| full_row(rng, &mut lent, *id));
+    Input {
+        tracks: tracks.collect(),
+        text: lent.text,
+        material,
+    }
+}
+
+/// A map of tracks with few items, or with none at all.
+fn lean(rng: &mut Rng, ids: &[u64]) -> Input {
+    let mut text = Vec::new();
+    let material = some_material(rng, &mut text);
+    let bare = rng.chance(1, 2);
+    let mut tracks = Vec::new();
+    for id in ids {
+        tracks.push(if bare {
+            bare_row(rng, *id)
+        } else {
+            some_row(rng, &mut text, *id)
+        });
+    }
+    Input {
+        text,
+        material,
+        tracks,
+    }
+}
+
+/// Takes one byte off one text of a full map, its first or its last.
+fn shorten(rng: &mut Rng, input: &mut Input) {
+    let track = rng.below(input.tracks.len());
+    let slot = match rng.below(3) {
+        0 => &mut input.material[0],
+        1 => &mut input.tracks[track].2[0],
+        _ => &mut input.tracks[track].2[3],
+    };
+    slot[1] += rng.below(2) as u64;
+    slot[2] -= 1;
+}
+
+/// A known type that is not of MPEG video.
+fn other_type(rng: &mut Rng) -> u64 {
+    loop {
+        let kind = u64::from(rng.pick(&KNOWN_TYPES));
+        if !MPEG_TYPES.contains(&kind) {
+            return kind;
+        }
+    }
+}
+
+/// Sets a 4D in the place of the 4F in some tracks of a full map; gives how many.
+fn swap_forms(rng: &mut Rng, input: &mut Input) -> usize {
+    let all = input.tracks.len();
+    let n = rng.pick(&[1, 1, 2, all]);
+    let from = rng.below(all - n + 1);
+    for (kind, _, slots) in &mut input.tracks[from..from + n] {
+        *kind = other_type(rng);
+        slots[1] = binary_slot(rng, &mut input.text);
+        slots[3] = absent(rng);
+    }
+    n
+}
+
+/// A map that is full, or lacks one byte, or has tracks of 295 bytes in the place of 542.
+fn nearly_full(rng: &mut Rng, ids: &[u64]) -> Input {
+    let mut input = full(rng, ids);
+    let mut length = 22 + MOST.material_section + MOST.track * ids.len();
+    match rng.below(4) {
+        0 => {
+            shorten(rng, &mut input);
+            length -= 1;
+        }
+        1 => length -= (MOST.track - 295) * swap_forms(rng, &mut input),
+        _ => {}
+    }
+    assert_eq!(input.packet().len(), length.div_ceil(4) * 4);
+    input
+}
+
+/// So many IDs in any order; of 65 one is there twice.
+fn ids_of(rng: &mut Rng, n: usize) -> Vec<u64> {
+    let mut ids = all_ids(rng);
+    ids.truncate(n);
+    if n > ids.len() {
+        let twice = rng.pick(&ids);
+        ids.insert(rng.below(n), twice);
+    }
+    ids
+}
+
+/// A place and a room for a packet of this length: exact, one byte too small, enough for every map, or any; `fits` as in `room_for`.
+fn long_room(rng: &mut Rng, length: usize) -> (u64, u64, bool) {
+    let at = match rng.below(3) {
+        0 => 0,
+        1 => rng.below(20),
+        _ => rng.below(29_000),
+    };
+    let exact = at + length;
+    let ample = at + MOST.packet + rng.pick(&[0, 1, 500]);
+    match rng.below(4) {
+        0 => (at as u64, exact as u64, true),
+        1 => (at as u64, exact as u64 - 1, false),
+        2 => (at as u64, ample as u64, true),
+        _ => room_for(rng, length),
+    }
+}
+
+/// Maps of 63, 64 and 65 tracks, full, nearly full and lean: at the bounds of 02, §9. An ID twice is 10, an ID of 64 is 24.
+pub fn map_bounds(rng: &mut Rng) -> Made {
+    let n = rng.pick(&[63, 64, 64, 64, 65]);
+    let ids = ids_of(rng, n);
+    let mut input = if rng.chance(1, 5) {
+        lean(rng, &ids)
+    } else {
+        nearly_full(rng, &ids)
+    };
+    let bytes = input.packet();
+    let (at, room, fits) = long_room(rng, bytes.len());
+    let claim = if n > 64 && rng.chance(1, 2) {
+        input.tracks[rng.below(n)].1 = 64;
+        unwritten(24, room)
+    } else if n > 64 {
+        unwritten(10, room)
+    } else if fits {
+        written(at, room, &bytes)
+    } else {
+        unwritten(13, room)
+    };
+    (input.ask(at, room), claim)
 }
 
 /// Words at every edge anywhere.

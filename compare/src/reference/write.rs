@@ -1,4 +1,4 @@
-//! 01, Writers. Order: 24, 11, 10, 25, 13, each over the whole input; every place is 0 (D38).
+//! 01, Writers, as 02, §9 has it. Order: 24, 11, 10, 13, each over the whole input; every place is 0 (D38).
 
 use super::header::{FLT, MAP};
 use super::map::{FIELDS, LINES, RATES};
@@ -145,6 +145,12 @@ fn item_bytes(items: &[Given]) -> Vec<u8> {
     bytes
 }
 
+/// A 16-bit length and its bytes. It always fits: 64 tracks of at most 542 bytes, and 287 of material (02, §9).
+fn counted(bytes: Vec<u8>) -> Vec<u8> {
+    let length = u16::try_from(bytes.len()).expect("a section has at most 34,688 bytes");
+    [&length.to_be_bytes(), &bytes[..]].concat()
+}
+
 /// The map writer. `material` is six slots of three words (40 to 45); `tracks` is rows of 23 words: bare type,
 /// bare ID, seven slots (4C, 4D, 4E, 4F, 50, 51, 52). A slot is a mark, a and b.
 pub fn write_map(
@@ -185,23 +191,14 @@ pub fn write_map(
             return refuse(10, 0);
         }
     }
-    // 25
-    let material_section = item_bytes(&head);
-    let mut track_section = Vec::new();
-    for (kind, id, items) in &rows {
-        let bytes = item_bytes(items);
-        track_section.extend([0x80 + kind, 0xC0 + id]);
-        track_section.extend((bytes.len() as u16).to_be_bytes());
-        track_section.extend(bytes);
-    }
-    if material_section.len() > 65_535 || track_section.len() > 65_535 {
-        return refuse(25, 0);
-    }
     // 13, or the packet
+    let mut section = Vec::new();
+    for (kind, id, items) in &rows {
+        section.extend([0x80 + kind, 0xC0 + id]);
+        section.extend(counted(item_bytes(items)));
+    }
     let mut payload = vec![0xE0, 0xFF];
-    payload.extend((material_section.len() as u16).to_be_bytes());
-    payload.extend(material_section);
-    payload.extend((track_section.len() as u16).to_be_bytes());
-    payload.extend(track_section);
+    payload.extend(counted(item_bytes(&head)));
+    payload.extend(counted(section));
     put(room, at, &packet_of(MAP, &payload))
 }

@@ -1,0 +1,121 @@
+//! What a run met: cases by kind, accepted, and refused by number.
+
+use crate::reference::plate::PLATE;
+use std::collections::{BTreeMap, BTreeSet};
+
+/// How many cases of a kind were accepted, and refused by number.
+#[derive(Default)]
+struct Row {
+    cases: u64,
+    accepted: u64,
+    refused: BTreeMap<u8, u64>,
+    differences: u64,
+}
+
+#[derive(Default)]
+pub struct Table {
+    rows: BTreeMap<String, Row>,
+    strange: BTreeSet<u8>,
+}
+
+/// The numbers of the refusals in a line; a walker's may stand behind accepted steps.
+fn refusals(line: &str) -> impl Iterator<Item = u8> + '_ {
+    let mut words = line.split_ascii_whitespace();
+    std::iter::from_fn(move || {
+        words.find(|word| *word == "refused")?;
+        let number = words.next().and_then(|word| word.parse().ok());
+        Some(number.expect("a number stands behind `refused`"))
+    })
+}
+
+/// The first refusal in a line that is not on the plate.
+pub fn off_plate(line: &str) -> Option<u8> {
+    refusals(line).find(|number| !PLATE.contains(number))
+}
+
+/// Whether a program's line is the wanted one. A refusal that is not on the plate is a fault even where both sides give it.
+pub fn agree(want: &str, got: Option<&str>) -> bool {
+    got == Some(want) && off_plate(want).is_none()
+}
+
+impl Table {
+    pub fn count(&mut self, kind: &str, line: &str) {
+        self.strange.extend(off_plate(line));
+        let row = self.rows.entry(kind.to_string()).or_default();
+        row.cases += 1;
+        match refusals(line).next() {
+            None => row.accepted += 1,
+            Some(number) => *row.refused.entry(number).or_default() += 1,
+        }
+    }
+
+    pub fn differs(&mut self, kind: &str) {
+        self.rows.entry(kind.to_string()).or_default().differences += 1;
+    }
+
+    /// All kinds in one row.
+    fn all(&self) -> Row {
+        let mut all = Row::default();
+        for row in self.rows.values() {
+            all.cases += row.cases;
+            all.accepted += row.accepted;
+            for (number, cases) in &row.refused {
+                *all.refused.entry(*number).or_default() += cases;
+            }
+        }
+        all
+    }
+
+    /// The numbers of the plate that no case was refused with.
+    pub fn missed(&self) -> Vec<u8> {
+        let reached = self.all().refused;
+        let on_plate = PLATE.into_iter();
+        on_plate.filter(|n| !reached.contains_key(n)).collect()
+    }
+
+    /// Refusals that cases met and that are not on the plate.
+    pub fn strange(&self) -> Vec<u8> {
+        self.strange.iter().copied().collect()
+    }
+
+    pub fn print(&self) {
+        println!(
+            "{:<28} {:>7} {:>9}  refused (number:cases)",
+            "kind", "cases", "accepted"
+        );
+        for (kind, row) in &self.rows {
+            Self::line(kind, row);
+        }
+        Self::line("all", &self.all());
+        println!("refusals not reached: {}", listed(&self.missed()));
+        if !self.strange.is_empty() {
+            println!("refusals not on the plate: {}", listed(&self.strange()));
+        }
+    }
+
+    fn line(kind: &str, row: &Row) {
+        let mut refused: Vec<String> = row
+            .refused
+            .iter()
+            .map(|(n, c)| format!("{n}:{c}"))
+            .collect();
+        if row.differences > 0 {
+            refused.push(format!("({} differ)", row.differences));
+        }
+        println!(
+            "{kind:<28} {:>7} {:>9}  {}",
+            row.cases,
+            row.accepted,
+            refused.join(" ")
+        );
+    }
+}
+
+/// Numbers with a space between them, or `none`.
+fn listed(numbers: &[u8]) -> String {
+    if numbers.is_empty() {
+        return "none".to_string();
+    }
+    let words: Vec<String> = numbers.iter().map(u8::to_string).collect();
+    words.join(" ")
+}
