@@ -93,7 +93,7 @@ fn write_at(request: &Request, at: u64, room: u64) -> (Answer<u64>, Vec<u8>) {
     (done, room)
 }
 
-/// 02, §9: 35,000 bytes from the place on are room for every map. It is not 13 there, and else what it is in the case's own room.
+/// F22: 35,000 bytes from the place on are room for every map. It is not 13 there, and else what it is in the case's own room.
 fn ample_room(request: &Request) -> bool {
     let (at, room) = (request.numbers[0], request.numbers[1]);
     let most = MOST.packet as u64;
@@ -115,7 +115,7 @@ pub fn written(request: &Request) -> Option<Vec<u8>> {
     Some(room[at as usize..(at + length) as usize].to_vec())
 }
 
-/// The bounds of 02, §9 in every case of the map writer.
+/// The bounds of F22 in every case of the map writer.
 fn sizes(seed: u64, cases: u64) -> Vec<Tally> {
     let mut rooms = Tally::new("map writer: 35,000 bytes are room for every map");
     let mut bounds = Tally::new("map writer: the packet keeps the five bounds");

@@ -1,4 +1,4 @@
-//! How large a written map is, counted from its bytes, and the bounds that 02, §9 gives.
+//! How large a written map is, counted from its bytes, and the bounds of F22.
 
 use crate::reference::plate::most_first;
 

@@ -1,4 +1,4 @@
-//! 02, §9: a written map has at most 35,000 bytes, so that no section is too long, and 35,000 bytes are room for every map.
+//! F22: a written map has at most 35,000 bytes, so that no section is too long, and 35,000 bytes are room for every map.
 
 use compare::generate::{case, kind_of};
 use compare::own;

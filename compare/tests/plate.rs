@@ -1,4 +1,4 @@
-//! The plate has no 25 (02, §9), and a run tells of every refusal that is not on it.
+//! The plate has no 25 (F22), and a run tells of every refusal that is not on it.
 
 use compare::generate::case;
 use compare::reference::plate::PLATE;

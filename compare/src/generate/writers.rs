@@ -562,7 +562,7 @@ impl Lent {
     }
 }
 
-/// All items that may stand in a track, as long as they can be: 542 bytes with the header (02, §9).
+/// All items that may stand in a track, as long as they can be: 542 bytes with the header (F22).
 fn full_row(rng: &mut Rng, lent: &mut Lent, id: u64) -> Row {
     let (_, id, mut slots) = bare_row(rng, id);
     slots[0] = lent.longest(rng);
@@ -689,7 +689,7 @@ fn long_room(rng: &mut Rng, length: usize) -> (u64, u64, bool) {
     }
 }
 
-/// Maps of 63, 64 and 65 tracks, full, nearly full and lean: at the bounds of 02, §9. An ID twice is 10, an ID of 64 is 24.
+/// Maps of 63, 64 and 65 tracks, full, nearly full and lean: at the bounds of F22. An ID twice is 10, an ID of 64 is 24.
 pub fn map_bounds(rng: &mut Rng) -> Made {
     let n = rng.pick(&[63, 64, 64, 64, 65]);
     let ids = ids_of(rng, n);

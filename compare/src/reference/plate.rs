@@ -1,6 +1,6 @@
 //! 01, The refusal plate: every refusal is a number and a place.
 
-/// The numbers of the plate. 25 is not used, and no refusal takes it again (02, §9).
+/// The numbers of the plate. 25 is not used, and no refusal takes it again (F22).
 pub const PLATE: [u8; 26] = [
     1, 2, 3, 4, 5, 6, 7, 8, 9, 10, 11, 12, 13, 14, 15, 16, 17, 18, 19, 20, 21, 22, 23, 24, 26, 27,
 ];

@@ -1,4 +1,4 @@
-//! 01, Writers, as 02, §9 has it. Order: 24, 11, 10, 13, each over the whole input; every place is 0 (D38).
+//! 01, Writers. Order: 24, 11, 10, 13, each over the whole input; every place is 0 (D38).
 
 use super::header::{FLT, MAP};
 use super::map::{FIELDS, LINES, RATES};
@@ -145,7 +145,7 @@ fn item_bytes(items: &[Given]) -> Vec<u8> {
     bytes
 }
 
-/// A 16-bit length and its bytes. It always fits: 64 tracks of at most 542 bytes, and 287 of material (02, §9).
+/// A 16-bit length and its bytes. It always fits: 64 tracks of at most 542 bytes, and 287 of material (F22).
 fn counted(bytes: Vec<u8>) -> Vec<u8> {
     let length = u16::try_from(bytes.len()).expect("a section has at most 34,688 bytes");
     [&length.to_be_bytes(), &bytes[..]].concat()
