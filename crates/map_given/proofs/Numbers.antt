@@ -13,6 +13,7 @@ use Rattle.map_given.specs.declared.Slot.{Slot}
 use Rattle.map_given.specs.Given.{materialSlots, Given, tracksGiven}
 use Rattle.map_given.specs.Faults.{fits, reads, slotFault, graver, slotsFault, given, barred, ownFault, tracksFault, idFault, idsFault, faultOf}
 
+-- a number that a fault can be, or none
 abbrev pub Named : ℕ → Type 0
 Named n = has n (0 ∷ 24 ∷ 11 ∷ 10 ∷ []) ≡ true
 
@@ -82,7 +83,7 @@ fault-named text ms ts =
     named-24)
     named-24
 
--- a fault, where there is one
+-- a fault that is not 0 is one of the writer's refusals; and none is the room's
 pub fault-among : (f : ℕ) → eqb f 0 ≡ false → Named f → has f (24 ∷ 11 ∷ 10 ∷ 13 ∷ []) ≡ true
 unfolding has
 fault-among f e = rw e (go (eqb f 24) (eqb f 11) (eqb f 10))

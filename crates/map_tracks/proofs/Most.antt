@@ -14,6 +14,7 @@ use Rattle.map_items.proofs.Few.{Fresh, Between, few}
 use Rattle.map_tracks.specs.Tracks.{Description, End, hangs, splitTracks, tracksOf, judgeTracks, tracksVerdict, isListed, listed}
 use Rattle.map_tracks.proofs.Anywhere.{passed}
 
+-- the IDs of tracks
 abbrev pub idsOf : List Description → List ℕ
 idsOf [] = []
 idsOf (d ∷ ds) = d .id ∷ idsOf ds
