@@ -21,21 +21,10 @@ named-pick : (x : Bool) (a b : ℕ) → Named a → Named b → Named (pick x a 
 named-pick true a b p q = p
 named-pick false a b p q = q
 
-named-0 : Named 0
+-- each of the four
+named : Named 0 × Named 24 × Named 11 × Named 10
 unfolding has
-named-0 = refl
-
-named-24 : Named 24
-unfolding has
-named-24 = refl
-
-named-11 : Named 11
-unfolding has
-named-11 = refl
-
-named-10 : Named 10
-unfolding has
-named-10 = refl
+named = (refl, refl, refl, refl)
 
 named-graver : (a b : ℕ) → Named a → Named b → Named (graver a b)
 named-graver a b p q = named-pick (ltb a b) b a q p
@@ -43,24 +32,24 @@ named-graver a b p q = named-pick (ltb a b) b a q p
 slot-named : (text : List ℕ) (s : Slot) → Named (slotFault text s)
 unfolding slotFault
 slot-named text s =
-    named-pick (eqb (s .mark) 0) 0 _ named-0
-    (named-pick (eqb (s .mark) 1) _ 24 (named-pick (fits text s) _ 24 (named-pick (reads text s) 0 11 named-0 named-11) named-24) named-24)
+    named-pick (eqb (s .mark) 0) 0 _ (named .0)
+    (named-pick (eqb (s .mark) 1) _ 24 (named-pick (fits text s) _ 24 (named-pick (reads text s) 0 11 (named .0) (named .2)) (named .1)) (named .1))
 
 slots-named : (text : List ℕ) (ss : List Slot) → Named (slotsFault text ss)
 unfolding slotsFault
-slots-named text [] = named-0
+slots-named text [] = named .0
 slots-named text (s ∷ ss) = named-graver (slotFault text s) (slotsFault text ss) (slot-named text s) (slots-named text ss)
 
 own-named : (t : Given) → Named (ownFault t)
 unfolding ownFault
 own-named t =
     named-pick (knownType (t .mediaType)) _ 24
-    (named-pick (barred (t .slots)) 24 _ named-24 (named-pick (given 0x4D (t .slots)) _ 0 (named-pick (given 0x4F (t .slots)) 10 0 named-10 named-0) named-0))
-    named-24
+    (named-pick (barred (t .slots)) 24 _ (named .1) (named-pick (given 0x4D (t .slots)) _ 0 (named-pick (given 0x4F (t .slots)) 10 0 (named .3) (named .0)) (named .0)))
+    (named .1)
 
 tracks-named : (text : List ℕ) (ts : List Given) → Named (tracksFault text ts)
 unfolding tracksFault
-tracks-named text [] = named-0
+tracks-named text [] = named .0
 tracks-named text (t ∷ ts) =
     named-graver (graver (ownFault t) (slotsFault text (t .slots))) (tracksFault text ts)
     (named-graver (ownFault t) (slotsFault text (t .slots)) (own-named t) (slots-named text (t .slots)))
@@ -68,10 +57,10 @@ tracks-named text (t ∷ ts) =
 
 ids-named : (ids : List ℕ) (ts : List Given) → Named (idsFault ids ts)
 unfolding idsFault idFault
-ids-named ids [] = named-0
+ids-named ids [] = named .0
 ids-named ids (t ∷ ts) =
     named-graver (pick (ltb 63 (t .id)) 24 (pick (has (t .id) ids) 10 0)) (idsFault (t .id ∷ ids) ts)
-    (named-pick (ltb 63 (t .id)) 24 _ named-24 (named-pick (has (t .id) ids) 10 0 named-10 named-0))
+    (named-pick (ltb 63 (t .id)) 24 _ (named .1) (named-pick (has (t .id) ids) 10 0 (named .3) (named .0)))
     (ids-named (t .id ∷ ids) ts)
 
 pub fault-named : (text ms ts : List ℕ) → Named (faultOf text ms ts)
@@ -80,8 +69,8 @@ fault-named text ms ts =
     named-pick (eqb (length ms) 18) _ 24
     (named-pick (eqb (length ts % 23) 0) _ 24
     (named-graver _ _ (named-graver _ _ (slots-named text (materialSlots ms)) (tracks-named text (tracksGiven ts))) (ids-named [] (tracksGiven ts)))
-    named-24)
-    named-24
+    (named .1))
+    (named .1)
 
 -- a fault that is not 0 is one of the writer's refusals; and none is the room's
 pub fault-among : (f : ℕ) → eqb f 0 ≡ false → Named f → has f (24 ∷ 11 ∷ 10 ∷ 13 ∷ []) ≡ true

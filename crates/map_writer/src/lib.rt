@@ -85,7 +85,7 @@ fn copy(out: &mut [u8], pos: usize, text: &[u8], from: usize, n: usize)
     }
 }
 
-// Writes two bytes: those that an item or a track begins with.
+// Writes two bytes: those that an item, a track or a map's payload begins with.
 fn put_two(out: &mut [u8], pos: usize, first: u8, second: u8)
     requires { ⌜ pos + 2 ≤ length (now out) ⌝ }
     ensures { λ _. ⌜ now (out .exit) ≡ sets (now (out .entry)) pos (first ∷ second ∷ []) ⌝ }
