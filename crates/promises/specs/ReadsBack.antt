@@ -1,4 +1,4 @@
--- Demand 2, writers: what is written reads back as what was given, what is written and what is refused, and the room that is enough. Proved in proofs/ReadsBack.antt.
+-- Demand 2, writers: what is written reads back as what was given; what may be written is; which refusals there are; and the room that is enough. Proved in proofs/ReadsBack.antt.
 -- `ReadBack` of each writer says what the definitions of the readers give at the place, and that the bytes before and after the packet are as they were; `Readers` says it of whatever the
 -- readers' contracts allow there. Both speak of what was given alone: a map's view (map_writer/specs/ViewGiven.antt), a table's step and entries.
 use Prim.Native.Nat.{ℕ, _+_, _*_, _≤_}
