@@ -1,4 +1,4 @@
--- How long a written map can be (docs/changes/09-without-25.md): what no input without fault passes, an input that reaches it, and the room that is enough for every map.
+-- How long a written map can be (RDD 14, clause 7.1, Tables 3 to 6; 01, "Writers"; docs/DECISIONS.md, F22): what no input without fault passes, an input that reaches it, and the room that is enough for every map.
 -- A length word states up to 65,535 bytes, so each section fits, and no refusal is needed for one that does not. Proved in proofs/Largest.antt.
 use Prim.Native.Nat.{ℕ, zero, suc, _+_, _-_, _≤_, _<_}
 use mathlib.Core.Path.{_≡_}
@@ -46,6 +46,7 @@ pub record Sizes (Holds : ℕ → ℕ → Type 0) (text ms ts : List ℕ) : Type
 abbrev pub largestText : List ℕ
 largestText = replicate 254 0x41
 
+-- slots: all of the text, the number or code 1, and an absent one
 abbrev whole : List ℕ
 whole = 1 ∷ 0 ∷ 254 ∷ []
 
