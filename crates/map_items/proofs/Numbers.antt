@@ -1,5 +1,6 @@
--- The refusal of a section's items has a number from 7 to 12, as all of a map's own refusals have.
+-- The refusal of a section's items has a number from 7 to 12, as all of a map's own refusals have, and no bytes lack with it.
 use Prim.Native.Nat.{ℕ, _+_, _≤_}
+use mathlib.Core.Path.{refl}
 use mathlib.Core.Bool.{Bool, true, false}
 use mathlib.Core.List.{List, [], _∷_}
 use native.Mathlib.Omega.{arith}
@@ -7,7 +8,7 @@ use lib.ListN.{length}
 use lib.Dec.{eqb}
 use borrow.Author.Tests.{ne-eqb}
 use Rattle.plate.specs.Choice.{pick}
-use Rattle.plate.specs.declared.Refusal.{Refusal}
+use Rattle.plate.proofs.Numbers.{either, Among}
 use Rattle.text.specs.Text.{textOk}
 use Rattle.map_items.specs.Items.{Item, sectionOf}
 use Rattle.map_items.specs.Judge.{bad, andThen, formOf, isKnown, faultOf, countsAs, has, judgeItems, ending, verdictOf}
@@ -16,15 +17,6 @@ use Rattle.map_items.specs.declared.Form.{Form}
 use Rattle.map_items.specs.declared.Form.the-variants as form
 use Rattle.map_items.specs.declared.Verdict.{Verdict}
 use Rattle.map_items.specs.declared.Verdict.the-variants as verdict
-
--- what holds of both sides of a choice holds of it
-pub either : {A : Type 0} (P : A → Type 0) (b : Bool) {v w : A} → P v → P w → P (pick b v w)
-either P true h k = h
-either P false h k = k
-
--- a refusal whose number is from lo to hi
-abbrev pub Among : ℕ → ℕ → Refusal → Type 0
-Among lo hi r = (lo ≤ r .number) × (r .number ≤ hi)
 
 -- a map's own refusal
 abbrev pub Own : Verdict → Type 0
@@ -38,7 +30,7 @@ both (verdict.Refused r) w h k = h
 -- an item's own fault is 9 or 11
 fault-own : (n : ℕ) → 9 ≤ n → n ≤ 11 → (b : Bool) (p : ℕ) (w : Verdict) → Own w → Own (pick (eqb (pick b 0 n) 0) w (bad (pick b 0 n) p))
 fault-own n l m true p w h = h
-fault-own n l m false p w h = rw (ne-eqb n 0 (omega arith)) (omega arith, omega arith)
+fault-own n l m false p w h = rw (ne-eqb n 0 (omega arith)) (omega arith, omega arith, λ n. refl)
 
 item-own : (f : Form) (v : List ℕ) (p : ℕ) (w : Verdict) → Own w → Own (pick (eqb (faultOf f v) 0) w (bad (faultOf f v) p))
 unfolding faultOf
@@ -52,9 +44,9 @@ items-own c seen p [] = tt
 items-own c seen p (i ∷ is) =
     item-own (formOf c (i .tag)) (i .value) p _
     (either Own (isKnown (formOf c (i .tag)))
-    (either Own (has (countsAs (i .tag)) seen) (omega arith, omega arith) (items-own c (countsAs (i .tag) ∷ seen) (p + 2 + length (i .value)) is))
+    (either Own (has (countsAs (i .tag)) seen) (omega arith, omega arith, λ n. refl) (items-own c (countsAs (i .tag) ∷ seen) (p + 2 + length (i .value)) is))
     (items-own c seen (p + 2 + length (i .value)) is))
 
 pub section-own : (c : Section) (s : List ℕ) (p : ℕ) → Own (verdictOf c s p)
 unfolding verdictOf
-section-own c s p = both (judgeItems c [] p (sectionOf s .list)) (ending p (sectionOf s)) (items-own c [] p (sectionOf s .list)) (either Own (sectionOf s .end) tt (omega arith, omega arith))
+section-own c s p = both (judgeItems c [] p (sectionOf s .list)) (ending p (sectionOf s)) (items-own c [] p (sectionOf s .list)) (either Own (sectionOf s .end) tt (omega arith, omega arith, λ n. refl))

@@ -7,6 +7,7 @@ use native.Mathlib.Omega.{arith}
 use lib.ListN.{length, drop, length-append}
 use lib.Dec.{eqb}
 use Rattle.plate.specs.Choice.{pick}
+use Rattle.plate.specs.Plate.{refusal}
 use Rattle.plate.specs.declared.Refusal.{Refusal}
 use Rattle.map_items.specs.Items.{Item, sectionOf, itemsSize, itemsBytes}
 use Rattle.map_items.specs.Judge.{bad, andThen, formOf, isKnown, faultOf, countsAs, has, judgeItems, ending, verdictOf}
@@ -17,7 +18,7 @@ use Rattle.map_items.proofs.Split.{length-bytes, section-front}
 
 -- of a fault at a place
 pub at-place : (n p : ℕ) (r : Refusal) → bad n p ≡ Refused r → r .place ≡ p
-at-place n p r e = let a : record { number = n; place = p } ≡ r = cc in sym (ap (λ (x : Refusal). x .place) a)
+at-place n p r e = let a : refusal n p ≡ r = cc in sym (ap (λ (x : Refusal). x .place) a)
 
 -- an accepted verdict is no refusal
 pub not-refused : {X : Type 0} (r : Refusal) → Accepted ≡ Refused r → X

@@ -1,6 +1,6 @@
 -- What a step tells of its piece: only EOS ends a stream, and after any other the progress is one packet further.
 use Prim.Native.Nat.{ℕ, _+_}
-use mathlib.Core.Path.{_≡_, refl}
+use mathlib.Core.Path.{_≡_, refl, sym, _∙_}
 use mathlib.Core.Bool.{Bool, true, false}
 use native.Mathlib.Omega.{arith}
 use lib.Dec.{eqb}
@@ -30,6 +30,11 @@ module _ (p : Progress) (x : Piece) (at listed : ℕ) (more : Bool) where
       go false false false true false true r e = absurd (let z : _≡_ {A = ℕ} 0 1 = cc in omega arith)
       go false false false true false false r e = absurd (let z : _≡_ {A = ℕ} 0 1 = cc in omega arith)
       go false false false false m u r e = (r, cc)
+
+  -- and whether bytes follow is nothing to it
+  pub step-next-any : (q : Progress) → stepOf p x at listed more ≡ Next q → (other : Bool) → stepOf p x at listed other ≡ Next q
+  unfolding stepOf
+  step-next-any q e other = sym (rw (step-next q e .0)) ∙ e
 
   pub step-ended : (n : ℕ) → stepOf p x at listed more ≡ Ended n → eqb (x .«packet_type») 0xFB ≡ true
   unfolding stepOf
