@@ -2,18 +2,19 @@
 use Prim.Native.Nat.{ℕ, _+_, _-_, _*_, _≤_, _<_}
 use mathlib.Core.Path.{_≡_, refl, sym, _∙_, ap}
 use mathlib.Core.Bool.{Bool, true, false}
-use mathlib.Core.List.{List}
+use mathlib.Core.List.{List, _++_}
 use native.Mathlib.Omega.{arith}
-use lib.ListN.{length, getD, take, drop, length-drop}
-use lib.Seq.{length-take-le}
+use lib.ListN.{length, getD, take, drop, length-drop, take-append-drop}
+use lib.Seq.{length-take-le, take-append-le, drop-append-le}
 use lib.Dec.{ltb, eqb}
-use borrow.Author.Tests.{ltb-false}
+use borrow.Author.Tests.{ltb-false, eqb-true}
 use Rattle.plate.specs.Choice.{pick}
 use Rattle.plate.specs.Plate.{refusal}
 use Rattle.plate.specs.declared.Refusal.{Refusal}
 use Rattle.number.specs.Number.{le}
 use Rattle.packet.specs.Packet.{headerAt}
 use Rattle.packet.proofs.Laws.{whole}
+use Rattle.packet.proofs.Torn.{header-before, whole-within}
 use Rattle.packet.specs.declared.PacketAnswer.{PacketAnswer}
 use Rattle.packet.specs.declared.PacketAnswer.the-variants as packet
 use Rattle.map_items.specs.declared.Verdict.{Verdict}
@@ -25,6 +26,7 @@ use Rattle.locator.specs.declared.LocatorAnswer.the-variants as locator
 use Rattle.media.specs.Media.{preambleOf, fieldsOf}
 use Rattle.media.specs.declared.MediaAnswer.{MediaAnswer}
 use Rattle.media.specs.declared.MediaAnswer.the-variants as media
+use Rattle.piece.specs.Inside.{mediaLen}
 use Rattle.piece.specs.Piece.{plainPiece, ofMap, ofLocator, ofMedia, contentOf, opens, afterHeader, pieceAt}
 use Rattle.piece.specs.declared.Piece.{Piece}
 use Rattle.piece.specs.declared.PieceAnswer.the-variants.{Whole, Refused}
@@ -80,8 +82,29 @@ cut s at w e =
     let g = whole s at w e in
     record { within = omega (arith, g .within, g .least); least = g .least; long = length-take-le (w .len) (drop at s) (simp length-drop (g .within)) }
 
--- what a piece tells of its packet: it is as long as the header says, and a track ID is 63 at most
+-- a media packet of n bytes stands there: it is no first packet, and what it is to a stream behind that is its content
+pub record MediaThere (s : List ℕ) (at n : ℕ) : Type 0 where
+  pub cut : Cut s at n
+  pub opening : pieceAt s at true ≡ Refused (refusal 17 at)
+  pub same : pieceAt s at false ≡ contentOf (take n (drop at s)) at 0xBF
+
+pub media-there : (s : List ℕ) (at n : ℕ) → n ≡ mediaLen (headerAt s at) → (n ≡ 0 → ⊥) → MediaThere s at n
+unfolding mediaLen pieceAt opens
+media-there s at n = go (headerAt s at) refl
+  where
+    go : (h : PacketAnswer) → headerAt s at ≡ h → n ≡ mediaLen h → (n ≡ 0 → ⊥) → MediaThere s at n
+    go (packet.Refused r) q e z = absurd (z e)
+    go (packet.Whole w) q e z = by (eqb (w .«packet_type») 0xBF) refl e
+      where
+        by : (b : Bool) → eqb (w .«packet_type») 0xBF ≡ b → n ≡ pick b (w .len) 0 → MediaThere s at n
+        by true t f = let m = eqb-true (w .«packet_type») 0xBF t in record { cut = rw f (cut s at w q); opening = rw (q, m); same = rw (q, m, f) }
+        by false t f = absurd (z f)
+
+-- what a piece tells of its packet: it has a header, it is as long as that says, and a track ID is 63 at most
 pub record Told (s : List ℕ) (at : ℕ) (x : Piece) : Type 0 where
+  pub head : Packet
+  pub header : headerAt s at ≡ packet.Whole head
+  pub lens : x .len ≡ head .len
   pub cut : Cut s at (x .len)
   pub track : x .track < 64
 
@@ -129,5 +152,28 @@ told s at first x = go (headerAt s at) refl
             let k = cut s at w q in
             let t = content-told (take (w .len) (drop at s)) at (w .«packet_type») x e in
             let n : x .len ≡ w .len = t .0 ∙ k .long in
-            record { cut = rw n k; track = t .1 }
+            record { head = w; header = q; lens = n; cut = rw n k; track = t .1 }
         by false e = absurd (let z : _≡_ {A = ℕ} 0 1 = cc in omega arith)
+
+-- bytes behind a packet that lies in the bytes change nothing of it
+pub cut-before : (s t : List ℕ) (at n : ℕ) → at + n ≤ length s → take n (drop at (s ++ t)) ≡ take n (drop at s)
+cut-before s t at n h = ap (λ (x : List ℕ). take n x) (drop-append-le at s t (omega arith)) ∙ take-append-le n (drop at s) t (omega (arith, length-drop at s))
+
+pub piece-before : (s t : List ℕ) (at : ℕ) (first : Bool) (x : Piece) → pieceAt s at first ≡ Whole x → pieceAt (s ++ t) at first ≡ Whole x
+unfolding pieceAt
+piece-before s t at first x = go (headerAt s at) refl
+  where
+    go : (h : PacketAnswer) → headerAt s at ≡ h → afterHeader s at first h ≡ Whole x → pieceAt (s ++ t) at first ≡ Whole x
+    go (packet.Refused r) q e = absurd (let z : _≡_ {A = ℕ} 0 1 = cc in omega arith)
+    go (packet.Whole w) q e = rw (header-before s t at w q, cut-before s t at (w .len) (cut s at w q .within)) e
+
+-- and in a part of the bytes, up to c, a packet that ends within it is what it was
+pub cut-within : (s : List ℕ) (at n c : ℕ) → at + n ≤ c → c ≤ length s → take n (drop at (take c s)) ≡ take n (drop at s)
+cut-within s at n c h l =
+    sym (cut-before (take c s) (drop c s) at n (omega (arith, length-take-le c s l))) ∙ ap (λ (z : List ℕ). take n (drop at z)) (take-append-drop c s)
+
+pub piece-within : (s : List ℕ) (at : ℕ) (first : Bool) (x : Piece) → pieceAt s at first ≡ Whole x → (c : ℕ) → at + x .len ≤ c → c ≤ length s → pieceAt (take c s) at first ≡ Whole x
+unfolding pieceAt
+piece-within s at first x e c h l =
+    let b = told s at first x e in
+    rw (whole-within s at (b .head) (b .header) c (omega (arith, b .cut .least)) l (omega (arith, b .lens)), cut-within s at (b .head .len) c (omega (arith, b .lens)) l) (rw (b .header) at e)

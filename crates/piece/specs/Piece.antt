@@ -5,7 +5,7 @@ use mathlib.Core.List.{List}
 use lib.ListN.{length, take, drop}
 use lib.Dec.{eqb}
 use Rattle.plate.specs.Choice.{pick}
-use Rattle.plate.specs.Plate.{refusal}
+use Rattle.plate.specs.Plate.{refusal, placed}
 use Rattle.plate.specs.declared.Refusal.{Refusal}
 use Rattle.packet.specs.Packet.{headerAt, typeFlt, typeMap, typeMedia}
 use Rattle.packet.specs.declared.PacketAnswer.{PacketAnswer}
@@ -24,7 +24,7 @@ use Rattle.piece.specs.declared.PieceAnswer.the-variants.{Whole, Refused
 
 -- a check adds the packet's offset to places inside the packet; the place of 12 in media, asked at 0, becomes the packet's own
 abbrev pub moved : ℕ → Refusal → Refusal
-moved at r = refusal (r .number) (r .place + at)
+moved at r = placed r (r .place + at)
 
 -- a packet of a type and a length, of which the rules ask no more
 abbrev pub plainPiece : ℕ → ℕ → PieceAnswer

@@ -7,9 +7,8 @@ use plate::Refusal;
 ghost use mathlib.Core.Path.{_≡_};
 ghost use Prim.Native.Nat.{_+_, _<_, _≤_, _^_};
 ghost use lib.ListN.{length};
-ghost use mathlib.Core.Bool.{true};
-ghost use Rattle.plate.specs.Choice.{pick};
-ghost use Rattle.plate.specs.Plate.{refusal};
+ghost use Rattle.packet.specs.Packet.{headerAt};
+ghost use Rattle.piece.specs.Inside.{mediaLen};
 ghost use Rattle.piece.specs.Piece.{moved, opens, contentOf, pieceAt};
 ghost use Rattle.piece.specs.Seen.{Seeable, seenAt};
 
@@ -32,7 +31,7 @@ fn refused_at(r: Refusal, at: usize) -> PieceAnswer
     requires { ⌜ r .place + at < 2 ^ 64 ⌝ }
     ensures { λ x. ⌜ x ≡ PieceAnswer.Refused (moved at r) ⌝ }
 {
-    PieceAnswer::Refused(plate::refuse(r.number, r.place + at))
+    PieceAnswer::Refused(plate::placed(r, r.place + at))
 }
 
 // A packet of which the rules of streams ask its type and length alone.
@@ -111,19 +110,8 @@ fn may_open(first: bool, packet_type: u8) -> bool
     true
 }
 
-// The first packet of a stream: 17, content faults.
-fn opening(p: &[u8], at: usize, packet_type: u8) -> PieceAnswer
-    requires { ⌜ (16 ≤ length (now p)) × (at + length (now p) < 2 ^ 64) ⌝ }
-    ensures { λ x. ⌜ x ≡ pick (opens true «packet_type») (contentOf (now (p .entry)) at «packet_type») (PieceAnswer.Refused (refusal 17 at)) ⌝ }
-{
-    if may_open(true, packet_type) {
-        return content(p, at, packet_type);
-    }
-    PieceAnswer::Refused(plate::refuse(plate::NO_MAP_FIRST, at))
-}
-
-// The packet at a position of a stream: header faults, 17, content faults. Media packets are seen to here, so that the compiler need not call for them.
-pub fn piece_at(s: &[u8], at: usize, first: bool) -> PieceAnswer
+// Any packet at a position of a stream: header faults, 17, content faults.
+fn any_at(s: &[u8], at: usize, first: bool) -> PieceAnswer
     ensures { λ x. ⌜ x ≡ pieceAt (now (s .entry)) at first ⌝ }
 {
     match packet::header(s, at) {
@@ -131,15 +119,44 @@ pub fn piece_at(s: &[u8], at: usize, first: bool) -> PieceAnswer
         PacketAnswer::Whole(w) => {
             let packet_type = w.packet_type;
             let e = at + w.len;
-            if first {
-                return opening(&s[at..e], at, packet_type);
+            if may_open(first, packet_type) {
+                return content(&s[at..e], at, packet_type);
             }
-            if packet_type == packet::MEDIA {
-                return media_content(&s[at..e], at);
-            }
-            content(&s[at..e], at, packet_type)
+            PieceAnswer::Refused(plate::refuse(plate::NO_MAP_FIRST, at))
         }
     }
+}
+
+// The length of the whole media packet at a position; 0 where there is none.
+fn media_len(s: &[u8], at: usize) -> usize
+    ensures { λ r. ⌜ r ≡ mediaLen (headerAt (now (s .entry)) at) ⌝ }
+{
+    match packet::header(s, at) {
+        PacketAnswer::Refused(_) => 0,
+        PacketAnswer::Whole(w) => {
+            let packet_type = w.packet_type;
+            if packet_type == packet::MEDIA {
+                return w.len;
+            }
+            0
+        }
+    }
+}
+
+// The packet at a position of a stream: header faults, 17, content faults. Most are media packets, which are seen to here: what is none, or is refused, is read
+// once more, so that no refusal of a header is carried along with every packet.
+pub fn piece_at(s: &[u8], at: usize, first: bool) -> PieceAnswer
+    ensures { λ x. ⌜ x ≡ pieceAt (now (s .entry)) at first ⌝ }
+{
+    let n = media_len(s, at);
+    if n == 0 {
+        return any_at(s, at, first);
+    }
+    if first {
+        return PieceAnswer::Refused(plate::refuse(plate::NO_MAP_FIRST, at));
+    }
+    let e = at + n;
+    media_content(&s[at..e], at)
 }
 
 // The piece at an offset where `piece_at` gave one, by its bytes alone: for who has checked the stream, and tests nothing twice.
