@@ -26,7 +26,7 @@ use Rattle.agreement.specs.Inside.{likeRefusal, alike}
 self-alike : (a : LookupAnswer) → alike a (asSeek a) ≡ true
 unfolding alike likeRefusal
 self-alike (lookup.At o) = eq-eqb o o refl
-self-alike (lookup.Refused r) = rw (eq-eqb (r .number) (r .number) refl) (eq-eqb (r .place) (r .place) refl)
+self-alike (lookup.Refused r) = rw (eq-eqb (r .number) (r .number) refl, eq-eqb (r .lacking) (r .lacking) refl) (eq-eqb (r .place) (r .place) refl)
 
 pub had-room : (l s : List ℕ) (n : ℕ) → buildAnswer l s ≡ build.Records n → 16 * n ≤ length l
 unfolding buildAnswer

@@ -11,7 +11,7 @@ use Rattle.agreement.specs.declared.Agreement.the-variants.{Refused}
 
 -- for the code alone: two refusals, and two answers, are one
 unfoldable pub likeRefusal : Refusal → Refusal → Bool
-likeRefusal a b = pick (eqb (a .number) (b .number)) (eqb (a .place) (b .place)) false
+likeRefusal a b = pick (eqb (a .number) (b .number)) (pick (eqb (a .lacking) (b .lacking)) (eqb (a .place) (b .place)) false) false
 
 unfoldable pub alike : LookupAnswer → SeekAnswer → Bool
 alike (lookup.At o) (seek.At p) = eqb o p

@@ -19,10 +19,13 @@ pub enum Agreement {
 fn is_one(a: Refusal, b: Refusal) -> bool
     ensures { λ r. ⌜ r ≡ likeRefusal a b ⌝ }
 {
-    if a.number == b.number {
-        return a.place == b.place;
+    if a.number != b.number {
+        return false;
     }
-    false
+    if a.lacking != b.lacking {
+        return false;
+    }
+    a.place == b.place
 }
 
 // Whether a look-up's answer is a seek's.

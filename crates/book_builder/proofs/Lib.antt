@@ -1,6 +1,7 @@
 pub mod Contracts
 pub mod Laws
-pub mod Seen
 pub mod Once
 pub mod Same
+pub mod Seen
 pub mod Sound
+pub mod Torn

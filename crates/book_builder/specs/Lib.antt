@@ -1,3 +1,4 @@
 pub mod BookBuilder
 pub mod Inside
+pub mod Lacking
 pub mod Same

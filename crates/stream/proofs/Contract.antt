@@ -34,7 +34,7 @@ module _ (κs : Lfts 1) (a : Dens κs seek-kinds.ps) (x : resT seek-kinds.r κs 
     checked : y ≡ checkOf (a .0 .now)
     checked = q ∙ rw same
 
-    -- what the check refuses is refused by seek, with the same number and place
+    -- what the check refuses is refused by seek, with the same refusal, bytes lacking and all
     pub refused-alike : (r : Refusal) → y ≡ check.Refused r → x ≡ seek.Refused r
     refused-alike r e = p ∙ sought.refused-alike (a .1 .0) (a .1 .1 .0) (a .0 .now) r (sym checked ∙ e)
 

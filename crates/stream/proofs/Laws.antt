@@ -8,10 +8,11 @@ use lib.ListN.{length, getD, replicate}
 use lib.Dec.{eqb, ltb}
 use borrow.Author.Tests.{lt-ltb, le-ltb, ne-eqb}
 use Rattle.plate.specs.Choice.{pick}
-use Rattle.plate.specs.Ended.{none}
+use Rattle.plate.specs.Ended.{none, inFront}
 use Rattle.plate.specs.declared.Refusal.{Refusal}
 use Rattle.piece.specs.Piece.{pieceAt}
 use Rattle.piece.specs.declared.Piece.{Piece}
+use Rattle.piece.specs.declared.PieceAnswer.{PieceAnswer}
 use Rattle.piece.specs.declared.PieceAnswer.the-variants as piece
 use Rattle.piece.proofs.Laws.{told}
 use Rattle.order.specs.Order.{started, progressAfter, stepOf}
@@ -53,6 +54,22 @@ pub out : (s : List ℕ) (f : ℕ) (first : Bool) (types : List ℕ) (at : ℕ) 
 unfolding packetsFrom
 out s zero first types at h = refl
 out s (suc f) first types at h = rw (le-ltb at (length s) h)
+
+-- any fuel over the bytes left is enough
+pub fuel : (s : List ℕ) (f g : ℕ) (first : Bool) (types : List ℕ) (at : ℕ) → length s - at < f → length s - at < g → packetsFrom s f first types at ≡ packetsFrom s g first types at
+unfolding packetsFrom
+fuel s zero g first types at h k = absurd (omega arith)
+fuel s (suc f) zero first types at h k = absurd (omega arith)
+fuel s (suc f) (suc g) first types at h k = step (λ ts o l m. fuel s f g false ts o l m) (ltb at (length s)) (pieceAt s at first) refl
+  where
+    step : ((ts : List ℕ) (o : ℕ) → length s - o < f → length s - o < g → packetsFrom s f false ts o ≡ packetsFrom s g false ts o) → (b : Bool) (a : PieceAnswer) → pieceAt s at first ≡ a
+        → pick b (onPiece s at types (λ ts o. packetsFrom s f false ts o) a) (none runsOut) ≡ pick b (onPiece s at types (λ ts o. packetsFrom s g false ts o) a) (none runsOut)
+    step next false a e = refl
+    step next true (piece.Refused r) e = refl
+    step next true (piece.Whole x) e =
+        let w = told s at first x e in
+        ap (λ (ps : Packets). inFront (record { at = at; piece = x; types = typesAfter s at x types }) (pick (eqb (x .«packet_type») 0xFB) (none closed) ps))
+        (next (typesAfter s at x types) (at + x .len) (omega (arith, w .cut .least, w .cut .within)) (omega (arith, w .cut .least, w .cut .within)))
 
 -- a first carrier so far, this packet, and what follows
 first-assoc : (found : Spot) (b : Bool) (at : ℕ) (later : Spot) → orFirst found (pick b (spot.At at) later) ≡ orFirst (orFirst found (pick b (spot.At at) spot.Nothing)) later

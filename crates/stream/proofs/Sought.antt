@@ -52,7 +52,7 @@ module _ (track field : ℕ) where
   found-first (y ∷ ys) x zs n c = rw (n .0) (found-first ys x zs (n .1) c)
 
   module _ (s : List ℕ) where
-    -- a stream that the check refuses is refused by seek with the same number and place
+    -- a stream that the check refuses is refused by seek with the same refusal: number, place and bytes lacking
     pub refused-alike : (r : Refusal) → checkOf s ≡ check.Refused r → seekOf s track field ≡ seek.Refused r
     unfolding seekOf
     refused-alike r e = rw e

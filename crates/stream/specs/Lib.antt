@@ -1,3 +1,4 @@
 pub mod Inside
+pub mod Lacking
 pub mod Sought
 pub mod Stream

@@ -7,9 +7,11 @@ use lib.ListN.{length, take, drop}
 use Rattle.packet.specs.Packet.{headerAt}
 use Rattle.packet.specs.declared.Packet.{Packet}
 use Rattle.packet.specs.declared.PacketAnswer.the-variants.{Whole, Refused}
+use Rattle.packet.specs.Lacking.{Lacking}
 use Rattle.packet.proofs.Laws.{whole, by-header}
+use Rattle.packet.proofs.Torn.{lacking}
 use Rattle.plate.specs.declared.Refusal.{Refusal}
-use Rattle.walker.specs.Walk.{placeAfter, placeOf, Stepped}
+use Rattle.walker.specs.Walk.{placeAfter, placeOf, Stepped, walkOf}
 use Rattle.walker.specs.Inside.{turnsOf}
 use mathlib.Core.Bool.{Bool, true, false}
 use mathlib.Core.Logic.{_⊎_, inl, inr, ⊎-elim}
@@ -19,6 +21,7 @@ use lib.Dec.{ltb}
 use denote.Ref.{now}
 use Rattle.plate.specs.Choice.{pick}
 use Rattle.packet.specs.declared.PacketAnswer.{PacketAnswer}
+use Rattle.walker.specs.declared.Stop.{Stop}
 use Rattle.walker.specs.declared.Walker.{Walker}
 
 -- a refused step leaves the place, and so do all after it
@@ -50,6 +53,18 @@ alone w v r t x y e f l g k =
 pub step-refused : (w : Walker) (r : Refusal) (v : Walker) → Stepped w (Refused r) v → v ≡ w
 unfolding Stepped placeAfter
 step-refused w r v g = g .1 ∙ rw (← g .0)
+
+-- of bytes that lack a refused step says what the header at its place does, and so does a walk that comes to a refusal
+pub step-lacking : (w : Walker) (r : Refusal) (v : Walker) → Stepped w (Refused r) v → Lacking (now (w .stream)) (w .at) r
+unfolding Stepped
+step-lacking w r v g = lacking (now (w .stream)) (w .at) r (sym (g .0))
+
+pub walk-lacking : (s : List ℕ) (at n : ℕ) (x : Stop) → x ≡ walkOf s at n → (x .answer ≡ headerAt s (x .at)) × ((r : Refusal) → x .answer ≡ Refused r → Lacking s (x .at) r)
+unfolding walkOf
+walk-lacking s at n x e =
+    let there : x .at ≡ placeOf s at n = ap (λ (y : Stop). y .at) e in
+    let said : x .answer ≡ headerAt s (x .at) = ap (λ (y : Stop). y .answer) e ∙ ap (headerAt s) (sym there) in
+    (said, λ r f. lacking s (x .at) r (sym said ∙ f))
 
 -- ---- many steps
 -- a step before step k that did not move
