@@ -1,6 +1,7 @@
 /* Runs one job once on a file: ./count JOB FILE [stack], where JOB is a function of versions.h. The file is a stream, of look-up a seek book, of map a map. It
- * prints the answer, number and place first; of build also a sum over the buffer. With the word stack it prints how many bytes of stack the call used: what lies
- * below is painted before, and looked at after, which the counter of instructions does not allow. That counter looks at the job's function alone. */
+ * prints the answer, number, place and bytes lacking first; of build also a sum over the buffer. With the word stack it prints how many bytes of stack the call
+ * used: what lies below is painted before, and looked at after, which the counter of instructions does not allow. That counter looks at the job's function
+ * alone. */
 #include <stdio.h>
 #include <stdlib.h>
 #include <string.h>
@@ -97,13 +98,13 @@ int main(int argc, char **argv)
     if (painted)
         depth = used(top);
     if (which == MAP_READER) {
-        say(m.number), say(m.place), say(m.count), say(m.name), say(m.name_length);
+        say(m.number), say(m.place), say(m.lacking), say(m.count), say(m.name), say(m.name_length);
         for (i = 0; i < 5; i++)
             say(m.numbers[i]);
     } else {
         for (i = 0; i < n; i++)
             sum = 31 * sum + book[i];
-        say(r.number), say(r.place), say(r.value), say(sum);
+        say(r.number), say(r.place), say(r.lacking), say(r.value), say(sum);
     }
     printf("%ld\n", depth);
     return 0;

@@ -75,7 +75,9 @@ refused() { # JOB FILE LABEL
     answer "$1" "$2"
     set -- "$1" "$3" $lib
     [ "$3" != 0 ] || die "$1, $2: not refused"
-    echo "| $1 | $2 | $3 at $4 | ${lib##* } |"
+    said="$3 at $4"
+    [ "$3" != 5 ] || said="$said, $5 bytes lack"
+    echo "| $1 | $2 | $said | ${lib##* } |"
 }
 
 make() { python3 "$top/bench/inputs.py" "$@"; }

@@ -1,5 +1,5 @@
 /* The jobs that are counted, written by hand in C from the rules: check, seek, building a seek book, looking up in one, and reading a map. They answer and
- * refuse as the library does, with number and place. No header is included: the toolchain's clang has none. */
+ * refuse as the library does, with number, place and bytes lacking. No header is included: the toolchain's clang has none. */
 #include "versions.h"
 
 #define ALWAYS inline __attribute__((always_inline))
@@ -11,13 +11,19 @@ static inline u64 little64(const u8 *p) { return (u64)little32(p + 4) << 32 | li
 
 static inline struct reading no(u64 number, u64 place)
 {
-    struct reading r = {number, place, 0};
+    struct reading r = {number, place, 0, 0};
+    return r;
+}
+
+static inline struct reading torn(u64 place, u64 lacking)
+{
+    struct reading r = {5, place, lacking, 0};
     return r;
 }
 
 static inline struct reading yes(u64 value)
 {
-    struct reading r = {0, 0, value};
+    struct reading r = {0, 0, 0, value};
     return r;
 }
 
@@ -158,7 +164,7 @@ static ALWAYS struct reading run(const u8 *s, u64 n, int seeking, u64 track, u64
         if (len < 16 || len % 4 != 0)
             return no(4, at);
         if (left < len)
-            return no(5, at);
+            return torn(at, len - left);
         if (count == 0 && kind != MAP)
             return no(17, at);
         if (kind == MEDIA) {
@@ -293,7 +299,7 @@ static ALWAYS struct reading map_at_start(const u8 *s, u64 n, struct map_reading
     if (len < 16 || len % 4 != 0)
         return no(4, 0);
     if (n < len)
-        return no(5, 0);
+        return torn(0, len - n);
     if (s[5] != MAP)
         return no(6, 0);
     return walk_map(s, len, 0, says);
@@ -301,8 +307,8 @@ static ALWAYS struct reading map_at_start(const u8 *s, u64 n, struct map_reading
 
 struct map_reading c_map(const u8 *s, u64 n)
 {
-    struct map_reading says = {0, 0, 0, 0, 0, {NONE, NONE, NONE, NONE, NONE}};
+    struct map_reading says = {0, 0, 0, 0, 0, 0, {NONE, NONE, NONE, NONE, NONE}};
     struct reading r = map_at_start(s, n, &says);
-    struct map_reading refused = {r.number, r.place, 0, 0, 0, {0, 0, 0, 0, 0}};
+    struct map_reading refused = {r.number, r.place, r.lacking, 0, 0, 0, {0, 0, 0, 0, 0}};
     return r.number != 0 ? refused : says;
 }

@@ -1,4 +1,5 @@
-/* The jobs, by the library and in C. Each answers with number 0, place 0 and a value, or with a number of the plate and its place. */
+/* The jobs, by the library and in C. Each answers with number 0, place 0, lacking 0 and a value, or with a number of the plate, its place and, of 5, the bytes
+ * lacking. */
 #ifndef VERSIONS_H
 #define VERSIONS_H
 
@@ -9,14 +10,14 @@ typedef __UINT64_TYPE__ u64;
 enum { MAP = 0xBC, MEDIA = 0xBF, EOS = 0xFB, FLT = 0xFC, UMF = 0xFD };
 
 struct reading {
-    u64 number, place, value;
+    u64 number, place, lacking, value;
 };
 
 /* What a map says: the count of listed tracks; where its name's bytes stand and how many are stored, 0 and 0 where there is none; first and last field, mark
  * in and out, size, NONE where one is absent. Of a refused map all these are 0. */
 #define NONE 0xFFFFFFFFFFFFFFFFu
 struct map_reading {
-    u64 number, place, count, name, name_length, numbers[5];
+    u64 number, place, lacking, count, name, name_length, numbers[5];
 };
 
 struct reading c_check(const u8 *s, u64 n);

@@ -57,11 +57,21 @@ static const char *name_of(uint64_t packet_type)
     }
 }
 
+/* A refusal: its number and its place, and of a torn packet, which is 5, the bytes lacking. */
+static int refusal(uint64_t number, uint64_t place, uint64_t lacking)
+{
+    printf("refused %" PRIu64 " %" PRIu64, number, place);
+    if (number == 5)
+        printf(" %" PRIu64, lacking);
+    printf("\n");
+    return 1;
+}
+
 static int say(const char *what, struct gxf_offset o)
 {
     if (o.number != 0) {
-        printf("%s: refused %" PRIu64 " %" PRIu64 "\n", what, o.number, o.place);
-        return 1;
+        printf("%s: ", what);
+        return refusal(o.number, o.place, o.lacking);
     }
     printf("%s: %" PRIu64 "\n", what, o.offset);
     return 0;
@@ -103,8 +113,7 @@ int main(int argc, char **argv)
     while (at < n) {
         struct gxf_packet p = gxf_header(s, n, at);
         if (p.number != 0) {
-            printf("refused %" PRIu64 " %" PRIu64 "\n", p.number, p.place);
-            refused = 1;
+            refused = refusal(p.number, p.place, p.lacking);
             break;
         }
         printf("%zu %s %" PRIu64 "\n", at, name_of(p.packet_type), p.len);

@@ -1,5 +1,5 @@
 // The functions for C: the header, the position by a locator table, and seek, on numbers and byte slices. include/lumperki.h declares them.
-// A slice is a pointer and a length in C. Every answer is a struct by value: number 0 and the values, or a number of the plate and its place.
+// A slice is a pointer and a length in C. Every answer is a struct by value: number 0 and the values, or a number of the plate, its place and the bytes lacking.
 use for_c::GxfValue;
 use locator::PositionAnswer;
 use packet::PacketAnswer;
@@ -15,6 +15,7 @@ ghost use Rattle.control.specs.Control.{headerForC, positionForC, seekFo
 pub struct GxfPacket {
     pub number: u64,
     pub place: u64,
+    pub lacking: u64,
     pub packet_type: u64,
     pub len: u64,
 }
@@ -31,6 +32,7 @@ pub extern "C" fn gxf_header(s: &[u8], at: usize) -> GxfPacket
             GxfPacket {
                 number: 0,
                 place: 0,
+                lacking: 0,
                 packet_type,
                 len,
             }
@@ -38,9 +40,11 @@ pub extern "C" fn gxf_header(s: &[u8], at: usize) -> GxfPacket
         PacketAnswer::Refused(r) => {
             let number = r.number as u64;
             let place = r.place as u64;
+            let lacking = r.lacking as u64;
             GxfPacket {
                 number,
                 place,
+                lacking,
                 packet_type: 0,
                 len: 0,
             }

@@ -29,6 +29,7 @@ acceptedForC m =
     record {
       number = 0;
       place = 0;
+      lacking = 0;
       count = m .count;
       name = placeOf (m .material .name);
       «name_length» = lengthOf (m .material .name);
@@ -44,6 +45,7 @@ refusedForC r =
     record {
       number = r .number;
       place = r .place;
+      lacking = r .lacking;
       count = 0;
       name = 0;
       «name_length» = 0;

@@ -11,11 +11,12 @@ ghost use Rattle.count_map.specs.MeasureMap.{orNone, placeOf, lengthOf, 
 // What stands for a number that is absent; the numbers of a map are under 2^32.
 const NONE: u64 = 0xFFFF_FFFF_FFFF_FFFF;
 
-// Number 0, place 0, the count of listed tracks and the material; or a number of the plate, its place, and zeros.
+// Number 0, place 0, lacking 0, the count of listed tracks and the material; or a number of the plate, its place, the bytes lacking, and zeros.
 #[repr(C)]
 pub struct GxfMap {
     pub number: u64,
     pub place: u64,
+    pub lacking: u64,
     pub count: u64,
     // Where the name's bytes stand and how many are stored; 0 and 0 where there is none.
     pub name: u64,
@@ -68,6 +69,7 @@ fn accepted(m: MapSays) -> GxfMap
     GxfMap {
         number: 0,
         place: 0,
+        lacking: 0,
         count: m.count as u64,
         name: place_of(name),
         name_length: length_of(name),
@@ -86,6 +88,7 @@ fn refused(r: Refusal) -> GxfMap
     GxfMap {
         number: r.number as u64,
         place: r.place as u64,
+        lacking: r.lacking as u64,
         count: 0,
         name: 0,
         name_length: 0,

@@ -3,11 +3,12 @@ use plate::Refusal;
 ghost use mathlib.Core.Path.{_≡_};
 ghost use Rattle.for_c.specs.ForC.{answeredForC, refusedForC};
 
-// Number 0, place 0 and the value; or a number of the plate, its place, and 0.
+// Number 0, place 0, lacking 0 and the value; or a number of the plate, its place, the bytes lacking, and 0.
 #[repr(C)]
 pub struct GxfValue {
     pub number: u64,
     pub place: u64,
+    pub lacking: u64,
     pub value: u64,
 }
 
@@ -18,6 +19,7 @@ pub fn answered(value: u64) -> GxfValue
     GxfValue {
         number: 0,
         place: 0,
+        lacking: 0,
         value,
     }
 }
@@ -29,6 +31,7 @@ pub fn refused(r: Refusal) -> GxfValue
     GxfValue {
         number: r.number as u64,
         place: r.place as u64,
+        lacking: r.lacking as u64,
         value: 0,
     }
 }

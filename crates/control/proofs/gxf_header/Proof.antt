@@ -20,15 +20,18 @@ enum-known-r c = search needs
 cast-number : tie.Need-cast-number
 cast-number c = search needs
 
+cast-lacking : tie.Need-cast-lacking
+cast-lacking c = search needs
+
 returns : tie.Need-returns
 unfolding headerForC
 returns c = simp (sym (c .before .before .before .before .header .ensures) ∙ c .before .before .p .given .1)
 
 returns-2 : tie.Need-returns-2
 unfolding headerForC
-returns-2 c = simp (sym (c .before .before .before .before .header .ensures) ∙ c .before .before .r .given .1)
+returns-2 c = simp (sym (c .before .before .before .before .before .header .ensures) ∙ c .before .before .before .r .given .1)
 
 pub gxf-header-spec : {M : Type 1} → statement M
 gxf-header-spec =
     tie.close
-    (tie.spec header-requires enum-known-p cast-packet-type enum-known-r cast-number returns returns-2)
+    (tie.spec header-requires enum-known-p cast-packet-type enum-known-r cast-number cast-lacking returns returns-2)
