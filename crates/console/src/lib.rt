@@ -1,6 +1,7 @@
 // What the programs print and load with: texts and numbers to standard output, bytes from standard input or a file into a lent buffer.
 use libc::STDIN_FILENO;
 use libc::STDOUT_FILENO;
+use plate::Refusal;
 ghost use Prim.Native.Nat.{_≤_};
 ghost use mathlib.Core.Path.{_≡_};
 ghost use lib.ListN.{length};
@@ -29,13 +30,16 @@ pub fn figure(n: u64)
     number(n);
 }
 
-// A refusal: its number and its place.
-pub fn refused(number: u8, place: usize)
-    ensures { λ r. ⌜ r ≡ tt ⌝ }
+// A refusal: its number and its place, and of a torn packet the bytes lacking.
+pub fn refused(r: Refusal)
+    ensures { λ x. ⌜ x ≡ tt ⌝ }
 {
     say(b"refused");
-    figure(number as u64);
-    figure(place as u64);
+    figure(r.number as u64);
+    figure(r.place as u64);
+    if r.number == plate::TORN {
+        figure(r.lacking as u64);
+    }
 }
 
 // Standard input into a lent buffer until it is full or the input ends: how many bytes.

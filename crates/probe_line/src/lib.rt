@@ -72,6 +72,11 @@ pub fn two(out: &mut [u8], at: usize, word: &[u8], n: usize, m: usize) -> usize 
     figure(out, k, m as u64)
 }
 
+// A refusal: its number and its place, and of a torn packet the bytes lacking.
 pub fn refused(out: &mut [u8], at: usize, r: Refusal) -> usize {
-    two(out, at, b"refused", r.number as usize, r.place)
+    let k = two(out, at, b"refused", r.number as usize, r.place);
+    if r.number == plate::TORN {
+        return figure(out, k, r.lacking as u64);
+    }
+    k
 }

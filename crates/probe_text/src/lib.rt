@@ -9,7 +9,7 @@ use plate::Refusal;
 // Of 1 to 6 the place is the packet's first byte in the bytes that were sent, of others it counts from there.
 fn placed(r: Refusal, at: usize) -> Refusal {
     if r.number < 7 {
-        return plate::refuse(r.number, at);
+        return plate::placed(r, at);
     }
     r
 }

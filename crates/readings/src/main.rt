@@ -1,4 +1,4 @@
-// The bench readings that run: streams of 99 and 100 packets without a map, rates of auxiliary texts, and streams that a multiplexer made.
+// The bench readings that run: streams of 99 and 100 packets without a map, maps and a stream that are cut, rates of auxiliary texts, and streams that a multiplexer made.
 use console::figure;
 use console::load;
 use console::refused;
@@ -20,7 +20,7 @@ fn show_check(s: &[u8]) {
             figure(n as u64);
         }
         CheckAnswer::Refused(r) => {
-            refused(r.number, r.place);
+            refused(r);
         }
     }
     say(b"\n");
@@ -37,7 +37,7 @@ fn show_seek(s: &[u8], track: u64, field: u64) {
             figure(o as u64);
         }
         SeekAnswer::Refused(r) => {
-            refused(r.number, r.place);
+            refused(r);
         }
     }
     say(b"\n");
@@ -120,7 +120,7 @@ fn show_map(s: &[u8]) {
             show_material(material);
         }
         MapAnswer::Refused(r) => {
-            refused(r.number, r.place);
+            refused(r);
         }
     }
     say(b"\n");
@@ -155,6 +155,16 @@ fn check_file(path: &[u8]) {
     show_check(&buffer[0..n]);
 }
 
+// What the listing prints of a stream.
+fn list_file(path: &[u8]) {
+    let mut buffer = [0u8; 4096];
+    let n = load(path, &mut buffer);
+    say(b"list ");
+    say(path);
+    say(b": ");
+    lister::list(&buffer[0..n]);
+}
+
 // The rate of an auxiliary text, its bits held to those that were computed outside.
 fn show_rate(text: &[u8], want: u64) {
     match mpeg::read(text) {
@@ -174,7 +184,7 @@ fn show_rate(text: &[u8], want: u64) {
             }
         }
         MpegAnswer::Refused(r) => {
-            refused(r.number, r.place);
+            refused(r);
             say(b"\n");
         }
     }
@@ -206,6 +216,13 @@ fn longer_rates() {
     rate_file(b"br_9.txt", b"0.1234567", 0);
 }
 
+// A map of which the last bytes lack, and one of which the header does; a stream that is cut inside a packet, to check and seek.
+fn cut_streams() {
+    list_file(b"map_30.gxf");
+    list_file(b"map_15.gxf");
+    stream_file(b"cut.gxf");
+}
+
 // What a multiplexer made.
 fn streams() {
     stream_file(b"pal_one_frame.gxf");
@@ -225,6 +242,7 @@ fn more_streams() {
 fn main() {
     check_file(b"without_map_99.gxf");
     check_file(b"without_map_100.gxf");
+    cut_streams();
     rates();
     longer_rates();
     streams();

@@ -221,7 +221,7 @@ fn show_count(p: &[u8]) {
         }
         MapAnswer::Refused(r) => {
             say(b" ");
-            console::refused(r.number, r.place);
+            console::refused(r);
         }
     }
 }

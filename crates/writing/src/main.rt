@@ -7,9 +7,10 @@ use map::TrackAnswer;
 use map_answer::Material;
 use map_answer::Value;
 use packet_writer::WriteAnswer;
+use plate::Refusal;
 
-fn refused(n: u8, place: usize) {
-    console::refused(n, place);
+fn refused(r: Refusal) {
+    console::refused(r);
     say(b"\n");
 }
 
@@ -21,7 +22,7 @@ fn show_answer(answer: WriteAnswer) {
             say(b"\n");
         }
         WriteAnswer::Refused(r) => {
-            refused(r.number, r.place);
+            refused(r);
         }
     }
 }
@@ -72,7 +73,7 @@ fn show_map(out: &[u8], at: usize) {
             show_first(a.material);
         }
         MapAnswer::Refused(r) => {
-            refused(r.number, r.place);
+            refused(r);
         }
     }
 }
@@ -87,7 +88,7 @@ fn show_track(out: &[u8], at: usize) {
             say(b"\n");
         }
         TrackAnswer::Refused(r) => {
-            refused(r.number, r.place);
+            refused(r);
         }
     }
 }
@@ -181,7 +182,7 @@ fn write_locator() {
             say(b"\n");
         }
         PositionAnswer::Refused(r) => {
-            refused(r.number, r.place);
+            refused(r);
         }
     }
 }

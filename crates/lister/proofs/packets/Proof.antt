@@ -1,6 +1,6 @@
--- `listing::list` meets its contract: the text that the checker prints, with the answers to its needs.
-use Rattle.listing.proofs.list.Statement.{statement}
-use Rattle.listing.proofs.list.Tie as tie
+-- `lister::packets` meets its contract: the text that the checker prints, with the answers to its needs.
+use Rattle.lister.proofs.packets.Statement.{statement}
+use Rattle.lister.proofs.packets.Tie as tie
 use borrow.Author.Needs.{needs}
 use native.Mathlib.Omega.{arith}
 use Prim.Native.Nat.{_≤_, _-_}
@@ -49,8 +49,8 @@ print-count-requires c κs = search needs
 returns-2 : tie.Need-returns-2 Inv-loop μ-loop
 returns-2 c = search needs
 
-pub list-spec : {M : Type 1} → statement M
-list-spec =
+pub packets-spec : {M : Type 1} → statement M
+packets-spec =
     tie.close
     (tie.spec
     Inv-loop
