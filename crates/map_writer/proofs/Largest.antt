@@ -75,16 +75,16 @@ module _ (out : List ℕ) (at : ℕ) (text ms ts : List ℕ) where
   written h f = accepted out at text ms ts 0 f (omega (arith, most text ms ts (clean text ms ts f) .packet))
 
   -- a refusal: 13, or the fault's
-  refusals : (r : Refusal) → mapAnswer out at text ms ts ≡ Refused r → (has (r .number) (24 ∷ 11 ∷ 10 ∷ 13 ∷ []) ≡ true) × (r .place ≡ 0)
+  refusals : (r : Refusal) → mapAnswer out at text ms ts ≡ Refused r → (has (r .number) (24 ∷ 11 ∷ 10 ∷ 13 ∷ []) ≡ true) × (r .place ≡ 0) × (r .lacking ≡ 0)
   unfolding mapAnswer has
   refusals r = go (eqb (faultOf text ms ts) 0) refl (ltb (length out - at) (length (mapPacket text ms ts)))
     where
       go : (a : Bool) → eqb (faultOf text ms ts) 0 ≡ a → (b : Bool)
           → pick a (pick b (refused 13) (Length (length (mapPacket text ms ts)))) (refused (faultOf text ms ts)) ≡ Refused r
-          → (has (r .number) (24 ∷ 11 ∷ 10 ∷ 13 ∷ []) ≡ true) × (r .place ≡ 0)
-      go true p true e = let q : refusal 13 0 ≡ r = cc in rw (← q) (refl, refl)
+          → (has (r .number) (24 ∷ 11 ∷ 10 ∷ 13 ∷ []) ≡ true) × (r .place ≡ 0) × (r .lacking ≡ 0)
+      go true p true e = let q : refusal 13 0 ≡ r = cc in rw (← q) (refl, refl, refl)
       go true p false e = absurd (let z : _≡_ {A = ℕ} 0 1 = cc in omega arith)
-      go false p b e = let q : refusal (faultOf text ms ts) 0 ≡ r = cc in rw (← q) (fault-among (faultOf text ms ts) p (fault-named text ms ts), refl)
+      go false p b e = let q : refusal (faultOf text ms ts) 0 ≡ r = cc in rw (← q) (fault-among (faultOf text ms ts) p (fault-named text ms ts), refl, refl)
 
   never-13 : (r : Refusal) → at + 35000 ≤ length out → mapAnswer out at text ms ts ≡ Refused r → r .number ≡ 13 → ⊥
   never-13 r h e n = go (eqb (faultOf text ms ts) 0) refl

@@ -82,5 +82,5 @@ pub record Largest : Type 0 where
   pub never-13 : (out : List ℕ) (at : ℕ) (text ms ts : List ℕ) (r : Refusal) → at + 35000 ≤ length out → mapAnswer out at text ms ts ≡ Refused r → r .number ≡ 13 → ⊥
   -- and fewer are not: the largest map is refused there
   pub fewer-13 : (out : List ℕ) (at : ℕ) → length out - at < 35000 → mapAnswer out at largestText largestMaterial largestTracks ≡ refused 13
-  -- a refusal is 24, 11, 10 or 13, and its place is 0
-  pub refusals : (out : List ℕ) (at : ℕ) (text ms ts : List ℕ) (r : Refusal) → mapAnswer out at text ms ts ≡ Refused r → (has (r .number) (24 ∷ 11 ∷ 10 ∷ 13 ∷ []) ≡ true) × (r .place ≡ 0)
+  -- a refusal is 24, 11, 10 or 13, its place is 0, and no bytes lack with it
+  pub refusals : (out : List ℕ) (at : ℕ) (text ms ts : List ℕ) (r : Refusal) → mapAnswer out at text ms ts ≡ Refused r → (has (r .number) (24 ∷ 11 ∷ 10 ∷ 13 ∷ []) ≡ true) × (r .place ≡ 0) × (r .lacking ≡ 0)

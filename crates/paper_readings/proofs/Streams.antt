@@ -1,7 +1,7 @@
 -- What is said of the stream, computed by the checker.
 use Prim.Native.Nat.{ℕ}
 use mathlib.Core.Path.{_≡_, refl}
-use mathlib.Core.List.{List, [], _∷_, _++_}
+use mathlib.Core.List.{List, _∷_, _++_}
 use lib.ListN.{replicate}
 use Rattle.number.specs.Number.{be, le, leBytes}
 use Rattle.media_type.specs.MediaType.{knownType}
@@ -31,6 +31,15 @@ computed =
       checked = refl;
       mute-checked = refl;
       no-umf = refl;
+      torn-checked = refl;
+      torn-sought = refl;
+      torn-built = refl;
+      one-lacks = refl;
+      none-lacks = refl;
+      map-torn = refl;
+      map-short = refl;
+      torn-first = refl;
+      no-map-first = refl;
       field-0 = refl;
       field-1 = refl;
       no-field = refl;

@@ -3,7 +3,7 @@ use Prim.Native.Nat.{ℕ}
 use mathlib.Core.Path.{_≡_}
 use mathlib.Core.List.{List, [], _∷_, _++_}
 use lib.ListN.{replicate, take}
-use Rattle.plate.specs.Plate.{refusal}
+use Rattle.plate.specs.Plate.{refusal, torn}
 use Rattle.stream.specs.Stream as stream
 use Rattle.stream.specs.declared.CheckAnswer.the-variants as check
 use Rattle.stream.specs.declared.SeekAnswer.the-variants as seek
@@ -44,6 +44,18 @@ pub record Computed : Type 0 where
   pub checked : stream.checkOf S ≡ check.Packets 5
   pub mute-checked : stream.checkOf mute ≡ check.Packets 3
   pub no-umf : stream.checkOf unnoted ≡ check.Refused (refusal 21 76)
+  -- cut inside the packet at 60: 12 bytes lack, to check, seek and builder alike; with 11 more one lacks, and with 12 the packet is whole, and the bytes run out behind it
+  pub torn-checked : stream.checkOf (take 80 S) ≡ check.Refused (torn 60 12)
+  pub torn-sought : stream.seekOf (take 80 S) 1 0 ≡ seek.Refused (torn 60 12)
+  pub torn-built : builder.buildAnswer (room 33) (take 80 S) ≡ build.Refused (torn 60 12)
+  pub one-lacks : stream.checkOf (take 91 S) ≡ check.Refused (torn 60 1)
+  pub none-lacks : stream.checkOf (take 92 S) ≡ check.Refused (refusal 18 92)
+  -- of M, cut to 30 bytes, 14 lack; cut to 15, no length is known
+  pub map-torn : stream.checkOf (take 30 M) ≡ check.Refused (torn 0 14)
+  pub map-short : stream.checkOf (take 15 M) ≡ check.Refused (refusal 1 0)
+  -- a first packet that is torn and no map: 5 before 17
+  pub torn-first : stream.checkOf (headed 0xFD 20 ++ replicate 3 0) ≡ check.Refused (torn 0 1)
+  pub no-map-first : stream.checkOf (headed 0xFD 20 ++ replicate 4 0) ≡ check.Refused (refusal 17 0)
   -- seek: each field where it lies, and 16 for a field, or a track, that is not there; the check's refusal first
   pub field-0 : stream.seekOf S 1 0 ≡ seek.At 60
   pub field-1 : stream.seekOf S 1 1 ≡ seek.At 92

@@ -6,8 +6,8 @@ use lib.ListN.{replicate, take}
 use lib.IntN.{negsuc}
 use Rattle.packet.specs.Packet.{headerAt, refused}
 use Rattle.packet.specs.declared.PacketAnswer.{PacketAnswer}
-use Rattle.packet.specs.declared.PacketAnswer.the-variants.{Whole}
-use Rattle.plate.specs.Plate.{refusal}
+use Rattle.packet.specs.declared.PacketAnswer.the-variants.{Whole, Refused}
+use Rattle.plate.specs.Plate.{refusal, torn}
 use Rattle.plate.specs.declared.Refusal.{Refusal}
 use Rattle.map_items.specs.declared.Part.the-variants as part
 use Rattle.map_answer.specs.Answer as answer
@@ -119,8 +119,8 @@ readings =
     ∷ header (take 15 (headed 0xFB 16)) (refused 1 0)
     -- length 12: 4
     ∷ header (headed 0xFB 12) (refused 4 0)
-    -- length 20 with 19 bytes: 5
-    ∷ header (headed 0xFB 20 ++ replicate 3 0) (refused 5 0)
+    -- length 20 with 19 bytes: 5, and one byte lacks
+    ∷ header (headed 0xFB 20 ++ replicate 3 0) (Refused (torn 0 1))
     -- M: first field 0, track 1, type 10, name A1, rate not available
     ∷ mapOf M firstField0
     ∷ trackOf M (track1 code.NotAvailable)

@@ -33,14 +33,14 @@ map-read out at text ms ts n o g =
     rw (← f, ← g .on .1, ← g .on .2, ← g .on .3, ← g .on .4) (write-then-read (g .lifetimes) (g .arguments) n (g .exit) (rw e at (g .post)))
 
 -- a table that is refused: 24, or 13
-locator-refused : (out : List ℕ) (at step : ℕ) (ns : List ℕ) (r : Refusal) → locatorAnswer out at step ns ≡ write.Refused r → (has (r .number) (24 ∷ 13 ∷ []) ≡ true) × (r .place ≡ 0)
+locator-refused : (out : List ℕ) (at step : ℕ) (ns : List ℕ) (r : Refusal) → locatorAnswer out at step ns ≡ write.Refused r → (has (r .number) (24 ∷ 13 ∷ []) ≡ true) × (r .place ≡ 0) × (r .lacking ≡ 0)
 unfolding locatorAnswer has
 locator-refused out at step ns r = go (mayWrite step ns) (ltb (length out - at) (lengthOf ns))
   where
-    go : (a b : Bool) → pick a (pick b (refused 13) (write.Length (lengthOf ns))) (refused 24) ≡ write.Refused r → (has (r .number) (24 ∷ 13 ∷ []) ≡ true) × (r .place ≡ 0)
-    go true true e = let q : refusal 13 0 ≡ r = cc in rw (← q) (refl, refl)
+    go : (a b : Bool) → pick a (pick b (refused 13) (write.Length (lengthOf ns))) (refused 24) ≡ write.Refused r → (has (r .number) (24 ∷ 13 ∷ []) ≡ true) × (r .place ≡ 0) × (r .lacking ≡ 0)
+    go true true e = let q : refusal 13 0 ≡ r = cc in rw (← q) (refl, refl, refl)
     go true false e = absurd (let z : _≡_ {A = ℕ} 0 1 = cc in omega arith)
-    go false b e = let q : refusal 24 0 ≡ r = cc in rw (← q) (refl, refl)
+    go false b e = let q : refusal 24 0 ≡ r = cc in rw (← q) (refl, refl, refl)
 
 pub reads-back : ReadsBack
 reads-back =

@@ -1,5 +1,5 @@
--- Demand 1: every input there is. Each call ends with its answer or one numbered refusal and a place; a refused call has written nothing into what it was lent.
--- Every answer is an enum whose last case is the refusal, or holds one (`Stop`); a name is a part, empty where it is refused, and `name_place` tells number and place. That a call ends is part of its
+-- Demand 1: every input there is. Each call ends with its answer or one numbered refusal and a place (with 5 the bytes lacking too: page `BytesLacking`); a refused call has written nothing into what it was lent.
+-- Every answer is an enum whose last case is the refusal, or holds one (`Stop`); a name is a part, empty where it is refused, and `name_place` tells the refusal. That a call ends is part of its
 -- function's own proof, and none of these asks anything of its caller (docs/PROMISES.md, "Functions that ask"). Here: on the same input two calls have the same outcome, answer and buffer,
 -- whatever the contract leaves open (an outcome of a call is any that its contract allows: paper_readings/specs/Calls.antt), and a refused call leaves what it was lent. Proved in proofs/EveryInput.antt.
 use Prim.Native.Nat.{ℕ}

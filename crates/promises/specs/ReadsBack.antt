@@ -37,8 +37,8 @@ pub record ReadsBack : Type 0 where
   pub map-length : (out : List ℕ) (at : ℕ) (text ms ts : List ℕ) (n : ℕ) (o : List ℕ) → WritesMap out at text ms ts (write.Length n) o → n ≤ 35000
   -- so 35,000 bytes from the place on are room enough for every map: no call is refused with 13 there
   pub map-room : (out : List ℕ) (at : ℕ) (text ms ts : List ℕ) → at + 35000 ≤ length out → (r : Refusal) (o : List ℕ) → WritesMap out at text ms ts (write.Refused r) o → r .number ≡ 13 → ⊥
-  -- which refusals there are, all of them at place 0: of a map 24, 11, 10 and 13, of a table 24 and 13; which of them, and when, is `AsDefined`'s
+  -- which refusals there are, all of them at place 0 and without bytes lacking: of a map 24, 11, 10 and 13, of a table 24 and 13; which of them, and when, is `AsDefined`'s
   pub map-refusals : (out : List ℕ) (at : ℕ) (text ms ts : List ℕ) (r : Refusal) (o : List ℕ) → WritesMap out at text ms ts (write.Refused r) o
-      → (has (r .number) (24 ∷ 11 ∷ 10 ∷ 13 ∷ []) ≡ true) × (r .place ≡ 0)
+      → (has (r .number) (24 ∷ 11 ∷ 10 ∷ 13 ∷ []) ≡ true) × (r .place ≡ 0) × (r .lacking ≡ 0)
   pub locator-refusals : (out : List ℕ) (at step : ℕ) (ns : List ℕ) (r : Refusal) (o : List ℕ) → WritesLocator out at step ns (write.Refused r) o
-      → (has (r .number) (24 ∷ 13 ∷ []) ≡ true) × (r .place ≡ 0)
+      → (has (r .number) (24 ∷ 13 ∷ []) ≡ true) × (r .place ≡ 0) × (r .lacking ≡ 0)
