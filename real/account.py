@@ -2,7 +2,7 @@
 from collections import Counter
 from typing import NamedTuple
 
-from library import LIMIT, Preamble, Refused
+from library import LIMIT, Preamble, Refused, content
 
 
 class Told(NamedTuple):
@@ -28,8 +28,7 @@ def texts_of(library, lent, tracks):
 
 
 def gather(library, path):
-    with open(path, "rb") as f:
-        data = f.read()
+    data = content(path)
     lent = data[:LIMIT]
     packets, _ = library.ask_c(path)
     chart = library.read_map(lent)

@@ -13,9 +13,10 @@ PARAMETERS = "Ver Br Ipg Ppi Bpiop Pix Cf Cg Sl nl16 Vi f1 cbpg ar".split()
 class Refused(NamedTuple):
     number: int
     place: int
+    lacking: int = 0     # bytes, of 5 alone
 
     def __str__(self):
-        return f"refused {self.number} {self.place}"
+        return f"refused {self.number} {self.place}" + (f" {self.lacking}" if self.number == 5 else "")
 
 
 class Packet(NamedTuple):
@@ -72,8 +73,20 @@ def part(tokens):
 
 
 def refusal(tokens):
-    """The refusal that a line begins with, or nothing."""
-    return Refused(int(tokens[1]), int(tokens[2])) if tokens[0] == "refused" else None
+    """The refusal that a line begins with, or nothing; on 5 it has a third figure."""
+    if tokens[0] != "refused":
+        return None
+    return Refused(*map(int, tokens[1:4 if tokens[1] == "5" else 3]))
+
+
+def stated_and_left(data, place):
+    """The length that the header at a place states, and the bytes left from its first byte on."""
+    return int.from_bytes(data[place + 6:place + 10], "big"), len(data) - place
+
+
+def content(path):
+    with open(path, "rb") as f:
+        return f.read()
 
 
 def map_of(tokens):
@@ -92,15 +105,25 @@ class Library:
         self.gxf = [os.path.join(top, "gxf")]
         self.probe = [*emulator, os.path.join(loader, "ld-linux-x86-64.so.2"), "--library-path", loader, os.path.join(top, "target/bin/probe")]
         self.control = [*emulator, os.path.join(top, "target/c/control")]
+        self.torn = []       # every 5 that was given, and the bytes that lack by the header at its place
+
+    def held(self, answer, data):
+        """The answer. A 5 is noted beside what the lent bytes say: the length stated there less the bytes left."""
+        if isinstance(answer, Refused) and answer.number == 5:
+            stated, left = stated_and_left(data, answer.place)
+            self.torn.append((answer, stated - left))
+        return answer
 
     def ask(self, function, numbers, *strings):
         """The refusal, or the tokens of the probe's line."""
         run = subprocess.run(self.probe, input=request(function, numbers, strings), stdout=subprocess.PIPE, check=True)
         tokens = run.stdout.decode("ascii").split()
-        return refusal(tokens) or tokens
+        return self.held(refusal(tokens), strings[0]) or tokens
 
     def listing(self, path):
-        return subprocess.run([*self.gxf, "list", path], stdout=subprocess.PIPE, check=True, text=True).stdout.splitlines()
+        lines = subprocess.run([*self.gxf, "list", path], stdout=subprocess.PIPE, check=True, text=True).stdout.splitlines()
+        self.held(refusal(lines[-1].split()), content(path))
+        return lines
 
     def ask_c(self, path, distance=0, track=NO_TRACK, field=0):
         """What the control program says of a stream of any length: its packets, then the answer to a seek."""
@@ -108,15 +131,19 @@ class Library:
         lines = [line.split() for line in run.stdout.splitlines()]
         packets = [Packet(int(a), kind, int(n)) for a, kind, n in (x for x in lines if x[0].isdigit())]
         answer = lines[-1][1:]
-        return packets, refusal(answer) or int(answer[0])
+        return packets, self.held(refusal(answer), content(path)) or int(answer[0])
 
-    def check(self, path, data):
-        """The number of packets, or the refusal; of a stream too long for the probe by way of the seek in C, which checks first."""
-        if len(data) <= LIMIT:
-            answer = self.ask(0x09, [], data)
-            return answer if isinstance(answer, Refused) else int(answer[1])
+    def check_c(self, path):
+        """The number of packets, or the refusal, by way of the seek in C, which checks first."""
         packets, answer = self.ask_c(path)
         return len(packets) if answer == Refused(16, 0) else answer
+
+    def check(self, path, data):
+        """The number of packets, or the refusal; of a stream too long for the probe from C."""
+        if len(data) > LIMIT:
+            return self.check_c(path)
+        answer = self.ask(0x09, [], data)
+        return answer if isinstance(answer, Refused) else int(answer[1])
 
     def seek(self, path, data, track, field):
         if len(data) > LIMIT:
@@ -156,9 +183,9 @@ class Library:
         tokens = iter(self.ask(0x0F, [steps], lent)[1:])
         at, packets = 0, []
         for word in tokens:
-            first, second, place = (int(next(tokens)) for _ in range(3))
+            first, second, third = (int(next(tokens)) for _ in range(3))
             if word == "refused":
-                return packets, Refused(first, second)
+                return packets, self.held(Refused(first, second, third if first == 5 else 0), lent)
             packets.append(Packet(at, TYPES.get(first, "other"), second))
-            at = place
+            at = third
         return packets, None

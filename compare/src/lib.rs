@@ -1,4 +1,5 @@
-//! The exact rules of document 01 written a second time, from the paper alone, and seeded cases to compare the library with.
+//! The exact rules of document 01, and of the requests that changed it, written a second time, from the paper alone, and seeded
+//! cases to compare the library with.
 //! docs/PROBE.md has the format of requests and lines, and how to run.
 
 #![allow(clippy::manual_is_multiple_of)] // `% 4` is how the paper says it

@@ -287,6 +287,7 @@ fn listing_inputs(seed: u64, streams: u64) -> Vec<Vec<u8>> {
     inputs.push([&whole[..], &[0]].concat()); // one byte too long, and behind the EOS
     inputs.push([&[0], &whole[..]].concat());
     inputs.push(whole[..most - 1].to_vec());
+    inputs.push(whole[..most - 17].to_vec()); // the last media packet lacks a byte
     let cases = (0..).map(|index| case(seed, index).request);
     let asked = cases.filter(|request| request.function == CHECK);
     inputs.extend(
@@ -299,13 +300,14 @@ fn listing_inputs(seed: u64, streams: u64) -> Vec<Vec<u8>> {
 
 /// The listing program on these, one run each; how many differ.
 fn compare_listing(seed: u64, streams: u64, program: &Program) -> io::Result<u64> {
-    let (mut accepted, mut empty, mut too_long, mut differences) = (0, 0, 0, 0);
+    let (mut accepted, mut empty, mut too_long, mut torn, mut differences) = (0, 0, 0, 0, 0);
     let inputs = listing_inputs(seed, streams);
     for input in &inputs {
         let want = listing(input);
         accepted += u64::from(!want.starts_with("refused"));
         empty += u64::from(input.is_empty());
         too_long += u64::from(input.len() as u64 > MOST_BYTES);
+        torn += u64::from(want.starts_with("refused 5 "));
         let got = ask(program, input.clone())?.concat();
         if !agree(&want, Some(&got)) {
             differences += 1;
@@ -317,7 +319,7 @@ fn compare_listing(seed: u64, streams: u64, program: &Program) -> io::Result<u64
     }
     let n = inputs.len() as u64;
     println!(
-        "runs of the listing: {n}, accepted {accepted}, refused {} (too long {too_long}, empty {empty}), {differences} differ",
+        "runs of the listing: {n}, accepted {accepted}, refused {} (too long {too_long}, empty {empty}, torn {torn}), {differences} differ",
         n - accepted
     );
     Ok(differences)

@@ -3,16 +3,18 @@
 
 use crate::generate::maps::{self, Item, Model, M};
 use crate::generate::{case, packets, streams, writers, Case};
+use crate::reference::header::header;
 use crate::reference::map::{map, Map, Part};
-use crate::reference::plate::Answer;
+use crate::reference::plate::{Answer, Refusal};
 use crate::reference::walker::Walker;
 use crate::reference::{book, locator, name, stream, write};
 use crate::request::{
-    answer, hex, lent_room, read, words, Read, Request, BUILD, WRITE_FLT, WRITE_MAP,
+    answer, hex, lent_room, read, words, Read, Request, BUILD, MAP, MOST_BYTES, NAME, NAME_OF_TWO,
+    WALK, WRITE_FLT, WRITE_MAP,
 };
 use crate::rng::Rng;
 use crate::size::{Size, MOST};
-use crate::table::off_plate;
+use crate::table::{off_plate, refusals};
 
 /// One kind of check: how often it was made and what went wrong first.
 pub struct Tally {
@@ -46,12 +48,30 @@ fn keeps(line: &str, claim: &str) -> bool {
     }
 }
 
-/// Claims, the format there and back, rooms that a refusal leaves, and its number.
+/// Whether a line has a third figure, 1 at least and 4,294,967,276 at most, where its refusals are 5 and nowhere else: by its
+/// tokens, which are `refused`, number and place, the third figure, and what the function was lent.
+fn figures_stand(request: &Request, line: &str) -> bool {
+    let figures: Vec<u64> = refusals(line)
+        .filter(|refusal| refusal.number == 5)
+        .map(|refusal| refusal.lacking)
+        .collect();
+    let others = match request.function {
+        WALK => 1 + 4 * request.numbers[0] as usize,
+        MAP => 3 + request.numbers[1] as usize,
+        NAME | NAME_OF_TWO | BUILD | WRITE_FLT | WRITE_MAP => 4,
+        _ => 3,
+    };
+    let bounds = 1..=4_294_967_276;
+    line.split(' ').count() == others + figures.len() && figures.iter().all(|k| bounds.contains(k))
+}
+
+/// Claims, the format there and back, rooms that a refusal leaves, its number and its figures.
 fn claims(seed: u64, cases: u64) -> Vec<Tally> {
     let mut claims = Tally::new("line is as the case was made");
     let mut format = Tally::new("request read back from its bytes");
     let mut rooms = Tally::new("refused: the room is as it was");
     let mut plate = Tally::new("refusals of the line are on the plate");
+    let mut figures = Tally::new("refused: the third figure stands on 5 alone");
     for index in 0..cases {
         let Case {
             kind,
@@ -81,8 +101,65 @@ fn claims(seed: u64, cases: u64) -> Vec<Tally> {
         }
         let known = off_plate(&line).is_none();
         plate.check(known, || format!("{kind}, case {index}: {line}"));
+        if refusals(&line).next().is_some() {
+            let stand = figures_stand(&request, &line);
+            figures.check(stand, || format!("{kind}, case {index}: {line}"));
+        }
     }
-    vec![claims, format, rooms, plate]
+    vec![claims, format, rooms, plate, figures]
+}
+
+/// The request with so many bytes more, whatever they are, behind its torn packet; and the bytes that hold it.
+fn longer(rng: &mut Rng, request: &Request, n: u64) -> (Request, Vec<u8>) {
+    let mut request = request.clone();
+    let opening_torn = header(&request.strings[0], 0).is_err_and(|r| r.number == 5);
+    let of_closing = request.function == NAME_OF_TWO && !opening_torn;
+    let torn = &mut request.strings[usize::from(of_closing)];
+    torn.extend(rng.bytes(n as usize));
+    let bytes = torn.clone();
+    (request, bytes)
+}
+
+/// What the figure of 5 means: with so many bytes more, whatever they are, the packet there is whole; with fewer it is 5 there, and
+/// the line says how many are lacking still.
+fn figures_mean(seed: u64, cases: u64) -> Vec<Tally> {
+    let mut whole = Tally::new("5: with all bytes that lack the packet is whole");
+    let mut one = Tally::new("5: with one fewer the line says 1");
+    let mut some = Tally::new("5: with some more it says so many fewer");
+    for index in 0..cases {
+        let Case { kind, request, .. } = case(seed, index);
+        let line = answer(&request);
+        let Some(told) = refusals(&line).find(|refusal| refusal.lacking > 0) else {
+            continue;
+        };
+        let mut rng = Rng::new(seed ^ 0x1ACC, index);
+        let k = told.lacking;
+        let left_at = |left: u64| {
+            let still = Refusal {
+                lacking: left,
+                ..told
+            };
+            line.replace(&told.to_string(), &still.to_string())
+        };
+        let n = rng.below(k.min(64) as usize) as u64;
+        let got = answer(&longer(&mut rng, &request, n).0);
+        let what = |got: &str| format!("{kind}, case {index}: {line}, then {got}");
+        some.check(got == left_at(k - n), || what(&got));
+        if k > MOST_BYTES {
+            continue;
+        }
+        let got = answer(&longer(&mut rng, &request, k - 1).0);
+        one.check(got == left_at(1), || what(&got));
+        let (request, bytes) = longer(&mut rng, &request, k);
+        let length = bytes.len() as u64 - told.place;
+        let found = header(&bytes, told.place);
+        let good = found.is_ok_and(|packet| packet.length == length);
+        // behind an opening map that is whole now, the closing one may still be torn
+        let got = answer(&request);
+        let gone = request.function == NAME_OF_TWO || refusals(&got).all(|r| r.number != 5);
+        whole.check(good && gone, || what(&got));
+    }
+    vec![whole, one, some]
 }
 
 /// What a request to the map writer gives at this place of a room of this length, and the room behind it.
@@ -265,12 +342,13 @@ fn streams_agree(seed: u64, cases: u64) -> Vec<Tally> {
     let mut seeks = Tally::new("seek is look-up in the built book");
     let mut walks = Tally::new("walker takes as many steps as the check counts");
     let mut refusals = Tally::new("check, seek and builder refuse alike");
+    let mut headers = Tally::new("walker ends in the check's 1 to 5");
     for index in 0..cases {
         let mut rng = Rng::new(seed ^ 0x5EEC, index);
-        let bytes = if rng.chance(1, 3) {
-            streams::damaged_bytes(&mut rng)
-        } else {
-            streams::good(&mut rng).bytes()
+        let bytes = match rng.below(6) {
+            0 | 1 => streams::damaged_bytes(&mut rng),
+            2 => streams::torn_stream(&mut rng).1,
+            _ => streams::good(&mut rng).bytes(),
         };
         let mut room = vec![0; 65_536];
         let built = book::build(&bytes, &mut room);
@@ -299,11 +377,18 @@ fn streams_agree(seed: u64, cases: u64) -> Vec<Tally> {
                 refusals.check(same, || {
                     format!("stream {index}: {one:?} {two:?} {three:?}")
                 });
+                if one.number <= 5 {
+                    let mut walker = Walker::new(&bytes);
+                    let end = std::iter::repeat_with(|| walker.step()).find_map(Result::err);
+                    headers.check(end == Some(one), || {
+                        format!("stream {index}: {one:?} {end:?}")
+                    });
+                }
             }
             (one, two) => refusals.check(false, || format!("stream {index}: {one:?} {two:?}")),
         }
     }
-    vec![seeks, walks, refusals]
+    vec![seeks, walks, refusals, headers]
 }
 
 /// A name by ID is the record's name; of a map with itself it is the closing one's.
@@ -364,6 +449,7 @@ fn damaged_bench() -> Vec<Tally> {
 pub fn run(seed: u64, cases: u64) -> Vec<Tally> {
     let part = cases / 10 + 1;
     let mut all = claims(seed, cases);
+    all.extend(figures_mean(seed, cases));
     all.extend(sizes(seed, cases));
     all.extend(twins(seed, part));
     all.extend(round_trips(seed, part));

@@ -188,11 +188,11 @@ fn record(record: &Option<Track>) -> String {
     }
 }
 
-/// The answer's words, or `refused`, number and place.
+/// The answer's words, or `refused`, number and place, and on 5 the bytes lacking.
 fn line<T>(answer: Answer<T>, say: impl Fn(T) -> String) -> String {
     match answer {
         Ok(answer) => say(answer),
-        Err(refusal) => format!("refused {} {}", refusal.number, refusal.place),
+        Err(refusal) => refusal.to_string(),
     }
 }
 

@@ -1,6 +1,6 @@
-//! What a run met: cases by kind, accepted, and refused by number.
+//! What a run met: cases by kind, accepted, and refused by number; of 5 also how many bytes were lacking.
 
-use crate::reference::plate::PLATE;
+use crate::reference::plate::{Refusal, PLATE};
 use std::collections::{BTreeMap, BTreeSet};
 
 /// How many cases of a kind were accepted, and refused by number.
@@ -16,21 +16,32 @@ struct Row {
 pub struct Table {
     rows: BTreeMap<String, Row>,
     strange: BTreeSet<u8>,
+    /// How often a case that was refused with 5 lacked so many bytes.
+    lacking: BTreeMap<u64, u64>,
 }
 
-/// The numbers of the refusals in a line; a walker's may stand behind accepted steps.
-fn refusals(line: &str) -> impl Iterator<Item = u8> + '_ {
+/// The refusals in a line; a walker's may stand behind accepted steps.
+pub fn refusals(line: &str) -> impl Iterator<Item = Refusal> + '_ {
     let mut words = line.split_ascii_whitespace();
     std::iter::from_fn(move || {
         words.find(|word| *word == "refused")?;
-        let number = words.next().and_then(|word| word.parse().ok());
-        Some(number.expect("a number stands behind `refused`"))
+        let mut figure = || {
+            let word = words.next().and_then(|word| word.parse().ok());
+            word.expect("figures stand behind `refused`")
+        };
+        let (number, place) = (figure(), figure());
+        Some(Refusal {
+            number: u8::try_from(number).expect("a refusal's number is small"),
+            place,
+            lacking: if number == 5 { figure() } else { 0 },
+        })
     })
 }
 
 /// The first refusal in a line that is not on the plate.
 pub fn off_plate(line: &str) -> Option<u8> {
-    refusals(line).find(|number| !PLATE.contains(number))
+    let mut numbers = refusals(line).map(|refusal| refusal.number);
+    numbers.find(|number| !PLATE.contains(number))
 }
 
 /// Whether a program's line is the wanted one. A refusal that is not on the plate is a fault even where both sides give it.
@@ -45,7 +56,12 @@ impl Table {
         row.cases += 1;
         match refusals(line).next() {
             None => row.accepted += 1,
-            Some(number) => *row.refused.entry(number).or_default() += 1,
+            Some(refusal) => {
+                *row.refused.entry(refusal.number).or_default() += 1;
+                if refusal.number == 5 {
+                    *self.lacking.entry(refusal.lacking).or_default() += 1;
+                }
+            }
         }
     }
 
@@ -78,6 +94,22 @@ impl Table {
         self.strange.iter().copied().collect()
     }
 
+    /// Cases that were refused with 5, by the bytes lacking: one, under a header, up to a request's limit, and more.
+    pub fn figures(&self) -> String {
+        let sizes = [
+            ("1", 1..=1),
+            ("2 to 15", 2..=15),
+            ("16 to 65,536", 16..=65_536),
+            ("more", 65_537..=u64::MAX),
+        ];
+        let told = sizes.map(|(size, range)| {
+            let cases: u64 = self.lacking.range(range).map(|(_, cases)| cases).sum();
+            format!("{size}: {cases}")
+        });
+        let most = self.lacking.keys().last().unwrap_or(&0);
+        format!("{}; most: {most}", told.join(", "))
+    }
+
     pub fn print(&self) {
         println!(
             "{:<28} {:>7} {:>9}  refused (number:cases)",
@@ -87,6 +119,7 @@ impl Table {
             Self::line(kind, row);
         }
         Self::line("all", &self.all());
+        println!("bytes lacking on 5 (cases): {}", self.figures());
         println!("refusals not reached: {}", listed(&self.missed()));
         if !self.strange.is_empty() {
             println!("refusals not on the plate: {}", listed(&self.strange()));

@@ -198,7 +198,7 @@ fn a_size_is_counted_from_the_bytes() {
 
 /// Cases of a run that are made to be at the bounds: the room from the place on, and the size of what was written.
 fn at_bounds(seed: u64) -> Vec<(Option<u64>, Option<Size>)> {
-    let numbers = (0..10_000).filter(|index| kind_of(*index).0 == "map writer bounds");
+    let numbers = (0..12_000).filter(|index| kind_of(*index).0 == "map writer bounds");
     let requests = numbers.map(|index| case(seed, index).request);
     let seen = requests.map(|request| {
         let left = request.numbers[1].checked_sub(request.numbers[0]);

@@ -2,7 +2,7 @@
 
 use compare::generate::books::record;
 use compare::generate::maps::M;
-use compare::generate::packets::{flt_payload, media_payload, packet};
+use compare::generate::packets::{flt_payload, media_payload, packet, state_length};
 use compare::request::*;
 
 const PAGE: &str = include_str!("../../docs/PROBE.md");
@@ -16,6 +16,14 @@ fn examples() -> Vec<Request> {
     let media = packet(0xBF, &media_payload(10, 1, 300, [0x8000, 301], 1, &[]));
     let short = [&M[..], &umf, &eos].concat();
     let stream = [&M[..], &umf, &media, &eos].concat();
+    // torn: an EOS that states 20 bytes; M's first 30; M and a UMF of which 20 bytes of 32 are there
+    let mut twenty = eos.clone();
+    state_length(&mut twenty, 20);
+    let nineteen = [&twenty[..], &[0; 3]].concat();
+    let torn_map = &M[..30];
+    let torn_stream = [&M[..], &packet(0xFD, &[0xFF; 16])[..20]].concat();
+    // an opening map that is refused inside comes before a closing one that is torn
+    let other_version = packet(0xBC, &[0xE1, 0xFF, 0, 0, 0, 0]);
     // M's content: first field 0; type 10, ID 1, name A1, rate −2
     let mut material = vec![0; 18];
     material[3] = 1;
@@ -25,21 +33,29 @@ fn examples() -> Vec<Request> {
     vec![
         Request::new(HEADER, &[0], &[&eos]),
         Request::new(HEADER, &[999], &[&eos]),
+        Request::new(HEADER, &[0], &[&nineteen]),
         Request::new(PACKET, &[0, 0xFB], &[&eos]),
         Request::new(PACKET, &[0, 0xBC], &[&eos]),
         Request::new(MAP, &[0, 2], &[&M]),
+        Request::new(MAP, &[0, 2], &[torn_map]),
         Request::new(MAP, &[0, 0], &[&M]),
         Request::new(NAME, &[0, 1], &[&M]),
         Request::new(NAME, &[0, 2], &[&M]),
+        Request::new(NAME, &[4, 1], &[&[&[0xFF; 4], torn_map].concat()]),
         Request::new(NAME_OF_TWO, &[1], &[&M, &empty]),
+        Request::new(NAME_OF_TWO, &[1], &[&M, torn_map]),
+        Request::new(NAME_OF_TWO, &[1], &[&other_version, torn_map]),
         Request::new(PARAMETERS, &[], &[text.as_bytes()]),
         Request::new(POSITION, &[0, 39], &[&flt]),
         Request::new(POSITION, &[0, 40], &[&flt]),
         Request::new(MEDIA, &[0], &[&media]),
         Request::new(CHECK, &[], &[&short]),
+        Request::new(CHECK, &[], &[&torn_stream]),
         Request::new(SEEK, &[1, 300], &[&stream]),
+        Request::new(SEEK, &[1, 300], &[&torn_stream]),
         Request::new(BUILD, &[20], &[&stream]),
         Request::new(BUILD, &[15], &[&stream]),
+        Request::new(BUILD, &[4], &[&torn_stream]),
         Request::new(LOOKUP, &[1, 300], &[&record(1, 10, 300, 60)]),
         Request::new(WRITE_FLT, &[2, 32, 40], &[&word_bytes(&[4_194_304])]),
         Request::new(WRITE_FLT, &[2, 8, 0], &[&[]]),
@@ -48,7 +64,8 @@ fn examples() -> Vec<Request> {
             &[0, 48],
             &[b"A1", &word_bytes(&material), &word_bytes(&track)],
         ),
-        Request::new(WALK, &[3], &[&[umf, eos].concat()]),
+        Request::new(WALK, &[3], &[&[&umf[..], &eos].concat()]),
+        Request::new(WALK, &[2], &[&[umf, twenty].concat()]),
     ]
 }
 

@@ -11,14 +11,23 @@ fn the_plate_has_no_25() {
     assert_eq!(PLATE[..], numbers);
 }
 
+/// `refused`, number and place, and on 5 a third figure.
+fn said(number: u8, place: u64) -> String {
+    let lacking = if number == 5 { " 7" } else { "" };
+    format!("refused {number} {place}{lacking}")
+}
+
 #[test]
 fn a_number_off_the_plate_is_found() {
     for number in 0..=255 {
         let wanted = (!PLATE.contains(&number)).then_some(number);
-        assert_eq!(off_plate(&format!("refused {number} 0 x030a")), wanted);
+        let said = |place| said(number, place);
+        assert_eq!(off_plate(&format!("{} x030a", said(0))), wanted);
         // behind accepted steps and other refusals
-        let walk = format!("walk packet 253 16 16 refused 1 16 16 refused {number} 16 16");
-        assert_eq!(off_plate(&walk), wanted);
+        for before in ["refused 1 16 16", "refused 5 16 28 16"] {
+            let walk = format!("walk packet 253 16 16 {before} {} 16", said(16));
+            assert_eq!(off_plate(&walk), wanted);
+        }
     }
     for line in ["length 25 x25", "packet 25 16", "ok 25", "walk"] {
         assert_eq!(off_plate(line), None);
@@ -40,7 +49,7 @@ fn a_table_knows_what_was_missed_and_what_is_strange() {
     let mut table = Table::default();
     assert_eq!(table.missed(), PLATE);
     for number in PLATE.iter().filter(|number| **number != 13) {
-        table.count("one", &format!("refused {number} 0"));
+        table.count("one", &said(*number, 0));
     }
     table.count("two", "ok 13");
     assert_eq!((table.missed(), table.strange()), (vec![13], vec![]));

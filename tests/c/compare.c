@@ -1,6 +1,6 @@
 /* Holds the library against the reference on streams that are whole, damaged or no streams at all.
  *   compare [INPUTS [SEED]]
- * Prints how many inputs of each kind there were, how the calls went, and the differences; exit status 1 where there is one.
+ * Prints how many inputs of each kind there were, how the calls went, how many bytes were lacking on 5, and the differences; exit status 1 where there is one.
  * Every input ends at a page that cannot be read, so a read behind the lent bytes would end the program; it is held against a copy afterwards. */
 #define _DEFAULT_SOURCE
 #include "reference.h"
@@ -254,7 +254,7 @@ static void make_stream(void)
 enum { WHOLE, BYTE, LENGTH, CUT, ORDER, RANDOM, KINDS };
 
 static const char *const kind_names[KINDS] = {
-    "whole", "some bytes changed", "a length or a tag changed", "cut short or with a tail", "packets out of order", "bytes by chance"};
+    "whole", "some bytes changed", "a length or a tag changed", "cut short, torn or with a tail", "packets out of order", "bytes by chance"};
 
 static unsigned any_byte(void)
 {
@@ -263,6 +263,17 @@ static unsigned any_byte(void)
 }
 
 static size_t end_of(size_t k) { return k + 1 < packets ? offsets[k + 1] : size; }
+
+/* Cuts the stream somewhere behind the header of a packet, and has that packet state more than is left: a few bytes, thousands, up to all that a header can state. */
+static void tear(void)
+{
+    static const uint64_t more[] = {4, 8, 4096, 65536, 0x1000000, 0x80000000, 0xFFFFFFFC};
+    size_t at = offsets[under(packets)], end = at + 16 + under(size - at - 15);
+    uint64_t len = (end - at) / 4 * 4 + (chance(50) ? 4 : more[under(sizeof more / sizeof more[0])]);
+    size = at + 6;
+    put_big(len > 0xFFFFFFFC ? 0xFFFFFFFC : len, 4);
+    size = end;
+}
 
 static void damage(int kind)
 {
@@ -282,8 +293,10 @@ static void damage(int kind)
             made[at] = (uint8_t)(chance(50) ? made[at] + 1U : chance(50) ? made[at] + 255U : any_byte());
         break;
     case CUT:
-        if (chance(60))
+        if (chance(40))
             size = under(size + 1);
+        else if (chance(50))
+            tear();
         else
             for (i = 1 + under(40); i > 0; i--)
                 put((unsigned)under(3));
@@ -338,13 +351,21 @@ enum { HEADER, POSITION, SEEK, CALLS };
 static const char *const call_names[CALLS] = {"header", "position", "seek"};
 static uint64_t calls[CALLS], answered[CALLS], by_number[CALLS][32], differences;
 
-static void tally(int call, uint64_t number)
+/* How many bytes are lacking where the number is 5. */
+enum { ONE, FEW, SOME, MANY, SIZES };
+
+static const char *const size_names[SIZES] = {"1", "2 to 15", "16 to 65535", "more"};
+static uint64_t by_lacking[CALLS][SIZES];
+
+static void tally(int call, uint64_t number, uint64_t lacking)
 {
     calls[call]++;
     if (number == 0)
         answered[call]++;
     else if (number < 32)
         by_number[call][number]++;
+    if (number == 5)
+        by_lacking[call][lacking == 1 ? ONE : lacking < 16 ? FEW : lacking < 65536 ? SOME : MANY]++;
 }
 
 static void differ(uint64_t input, int call, const uint64_t *asked, const uint64_t *library, const uint64_t *reference, int fields)
@@ -365,26 +386,26 @@ static void differ(uint64_t input, int call, const uint64_t *asked, const uint64
 static void ask_header(uint64_t input, const uint8_t *s, size_t n, size_t at)
 {
     struct gxf_packet a = gxf_header(s, n, at), b = reference_header(s, n, at);
-    uint64_t asked[2], x[4], y[4];
-    tally(HEADER, b.number);
-    if (a.number == b.number && a.place == b.place && a.packet_type == b.packet_type && a.len == b.len)
+    uint64_t asked[2], x[5], y[5];
+    tally(HEADER, b.number, b.lacking);
+    if (a.number == b.number && a.place == b.place && a.lacking == b.lacking && a.packet_type == b.packet_type && a.len == b.len)
         return;
     asked[0] = at, asked[1] = 0;
-    x[0] = a.number, x[1] = a.place, x[2] = a.packet_type, x[3] = a.len;
-    y[0] = b.number, y[1] = b.place, y[2] = b.packet_type, y[3] = b.len;
-    differ(input, HEADER, asked, x, y, 4);
+    x[0] = a.number, x[1] = a.place, x[2] = a.lacking, x[3] = a.packet_type, x[4] = a.len;
+    y[0] = b.number, y[1] = b.place, y[2] = b.lacking, y[3] = b.packet_type, y[4] = b.len;
+    differ(input, HEADER, asked, x, y, 5);
 }
 
 static void hold(uint64_t input, int call, uint64_t first, uint64_t second, struct gxf_offset a, struct gxf_offset b)
 {
-    uint64_t asked[2], x[3], y[3];
-    tally(call, b.number);
-    if (a.number == b.number && a.place == b.place && a.offset == b.offset)
+    uint64_t asked[2], x[4], y[4];
+    tally(call, b.number, b.lacking);
+    if (a.number == b.number && a.place == b.place && a.lacking == b.lacking && a.offset == b.offset)
         return;
     asked[0] = first, asked[1] = second;
-    x[0] = a.number, x[1] = a.place, x[2] = a.offset;
-    y[0] = b.number, y[1] = b.place, y[2] = b.offset;
-    differ(input, call, asked, x, y, 3);
+    x[0] = a.number, x[1] = a.place, x[2] = a.lacking, x[3] = a.offset;
+    y[0] = b.number, y[1] = b.place, y[2] = b.lacking, y[3] = b.offset;
+    differ(input, call, asked, x, y, 4);
 }
 
 static void ask_position(uint64_t input, const uint8_t *s, size_t n, size_t at, uint64_t distance)
@@ -462,6 +483,9 @@ int main(int argc, char **argv)
         for (i = 1; i < 32; i++)
             if (by_number[k][i] != 0)
                 printf(" %d: %" PRIu64, i, by_number[k][i]);
+        printf("\n  bytes lacking on 5:");
+        for (i = 0; i < SIZES; i++)
+            printf("%s %s: %" PRIu64, i == 0 ? "" : ",", size_names[i], by_lacking[k][i]);
         printf("\n");
     }
     printf("differences: %" PRIu64 "\n", differences);

@@ -4,19 +4,29 @@
 
 #include <string.h>
 
-/* A refusal, or number 0. */
+/* A refusal, or number 0; of 5 the bytes that the packet lacks, of every other number 0. */
 struct fault {
     uint64_t number;
     uint64_t place;
+    uint64_t lacking;
 };
 
-static const struct fault fine = {0, 0};
+static const struct fault fine = {0, 0, 0};
 
 static struct fault fault(uint64_t number, uint64_t place)
 {
     struct fault f;
     f.number = number;
     f.place = place;
+    f.lacking = 0;
+    return f;
+}
+
+/* Packet longer than the bytes left: the packet length less the bytes left. */
+static struct fault torn(uint64_t place, uint64_t len, uint64_t left)
+{
+    struct fault f = fault(5, place);
+    f.lacking = len - left;
     return f;
 }
 
@@ -55,17 +65,18 @@ static struct fault header_fault(const uint8_t *s, size_t n, size_t at)
     if (len < 16 || len % 4 != 0)
         return fault(4, at);
     if (len > n - at)
-        return fault(5, at);
+        return torn(at, len, n - at);
     return fine;
 }
 
 struct gxf_packet reference_header(const uint8_t *s, size_t n, size_t at)
 {
-    struct gxf_packet answer = {0, 0, 0, 0};
+    struct gxf_packet answer = {0, 0, 0, 0, 0};
     struct fault f = header_fault(s, n, at);
     if (f.number != 0) {
         answer.number = f.number;
         answer.place = f.place;
+        answer.lacking = f.lacking;
         return answer;
     }
     answer.packet_type = s[at + 5];
@@ -92,7 +103,7 @@ static struct fault locator_fault(const uint8_t *p, uint64_t len)
 
 struct gxf_offset reference_position(const uint8_t *s, size_t n, size_t at, uint64_t distance)
 {
-    struct gxf_offset answer = {0, 0, 0};
+    struct gxf_offset answer = {0, 0, 0, 0};
     struct fault f = header_fault(s, n, at);
     uint64_t entry;
     if (f.number == 0 && s[at + 5] != 0xFC)
@@ -108,6 +119,7 @@ struct gxf_offset reference_position(const uint8_t *s, size_t n, size_t at, uint
     }
     answer.number = f.number;
     answer.place = f.place;
+    answer.lacking = f.lacking;
     return answer;
 }
 
@@ -309,7 +321,7 @@ static struct fault stream_fault(const uint8_t *s, size_t n)
 
 struct gxf_offset reference_seek(const uint8_t *s, size_t n, uint64_t track, uint64_t field)
 {
-    struct gxf_offset answer = {0, 0, 0};
+    struct gxf_offset answer = {0, 0, 0, 0};
     struct fault f = stream_fault(s, n);
     size_t at;
     if (f.number == 0) {
@@ -324,5 +336,6 @@ struct gxf_offset reference_seek(const uint8_t *s, size_t n, uint64_t track, uin
     }
     answer.number = f.number;
     answer.place = f.place;
+    answer.lacking = f.lacking;
     return answer;
 }

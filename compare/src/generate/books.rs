@@ -1,7 +1,7 @@
 //! Seek books, built and lent.
 
-use super::packets::{damage, edge_id, refused, KNOWN_TYPES};
-use super::streams::{damaged_bytes, good, question, Stream};
+use super::packets::{damage, edge_id, refused, torn, KNOWN_TYPES};
+use super::streams::{damaged_bytes, good, question, torn_stream, Stream};
 use super::Made;
 use crate::request::{hex, lent_room, Request, BUILD, LOOKUP};
 use crate::rng::Rng;
@@ -52,6 +52,15 @@ pub fn build_damage(rng: &mut Rng) -> Made {
     let bytes = damaged_bytes(rng);
     let room = rng.below(200) as u64;
     (Request::new(BUILD, &[room], &[&bytes]), None)
+}
+
+/// A torn stream, with room for the book of the whole one or without.
+pub fn build_torn(rng: &mut Rng) -> Made {
+    let (stream, bytes, i, lacking) = torn_stream(rng);
+    let room = rng.pick(&[0, 1, 15, book_of(&stream).len()]) as u64;
+    let lent = hex(&lent_room(room));
+    let claim = torn(stream.offset(i), lacking).map(|claim| format!("{claim} {lent}"));
+    (Request::new(BUILD, &[room], &[&bytes]), claim)
 }
 
 struct Entry {

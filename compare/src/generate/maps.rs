@@ -1,7 +1,8 @@
 //! Maps: a model that is put together with true lengths, its answer told from the model, and faults with their places.
 
 use super::packets::{
-    damage, lend, packet, refused, state_length, true_length, KNOWN_TYPES, RESERVED_TYPES,
+    damage, lend, lend_torn, packet, refused, state_length, tear, torn, true_length, KNOWN_TYPES,
+    RESERVED_TYPES,
 };
 use super::Made;
 use crate::request::{hex, Request, MAP, NAME, NAME_OF_TWO};
@@ -925,13 +926,30 @@ pub fn map_position(rng: &mut Rng) -> Made {
             (0, refused(6, 0))
         }
         _ => {
-            let cut = 16 + rng.below(bytes.len() - 16);
-            bytes.truncate(cut);
-            (0, refused(5, 0))
+            let cut = 1 + rng.below(bytes.len() - 16);
+            bytes.truncate(bytes.len() - cut);
+            (0, torn(0, cut))
         }
     };
     let claim = claim.map(|claim| claim + &" kept".repeat(n));
     (Request::new(MAP, &[at, n as u64], &[&bytes]), claim)
+}
+
+/// A map, good or with one fault: torn, it is 5 all the same.
+fn any_map(rng: &mut Rng) -> Vec<u8> {
+    let mut model = valid(rng, true);
+    if rng.chance(1, 3) {
+        return one_fault(rng, &mut model).0;
+    }
+    model.bytes()
+}
+
+pub fn map_torn(rng: &mut Rng) -> Made {
+    let bytes = any_map(rng);
+    let n = rng.below(4);
+    let (at, lent, lacking) = lend_torn(rng, bytes);
+    let claim = torn(at, lacking).map(|claim| claim + &" kept".repeat(n));
+    (Request::new(MAP, &[at, n as u64], &[&lent]), claim)
 }
 
 /// An ID to ask for: of a track that is there, or one that a narrowing would take for it.
@@ -993,6 +1011,14 @@ pub fn name_damaged(rng: &mut Rng) -> Made {
     (Request::new(NAME, &[at, id], &[&lent]), claim)
 }
 
+pub fn name_torn(rng: &mut Rng) -> Made {
+    let bytes = any_map(rng);
+    let (at, lent, lacking) = lend_torn(rng, bytes);
+    let claim = torn(at, lacking).map(|claim| claim + " x");
+    let id = rng.below(66) as u64;
+    (Request::new(NAME, &[at, id], &[&lent]), claim)
+}
+
 /// Two maps over the same few tracks.
 fn two(rng: &mut Rng) -> (Model, Model) {
     let opening = valid(rng, true);
@@ -1043,6 +1069,27 @@ pub fn two_damaged(rng: &mut Rng) -> Made {
     }
     if which != 1 {
         (first, claim) = one_fault(rng, &mut opening); // opening's refusal first
+    }
+    let claim = claim.map(|claim| claim + " x");
+    (Request::new(NAME_OF_TWO, &[id], &[&first, &second]), claim)
+}
+
+/// The opening map torn, the closing one too, or the closing one behind an opening map that is good or at fault.
+pub fn two_torn(rng: &mut Rng) -> Made {
+    let (mut opening, closing) = two(rng);
+    let id = id(rng, &opening);
+    let (mut first, mut second) = (opening.bytes(), closing.bytes());
+    let which = rng.below(4);
+    let mut claim = None;
+    if which != 0 {
+        let lacking = tear(rng, &mut second);
+        claim = torn(0, lacking);
+    }
+    if which < 2 {
+        let lacking = tear(rng, &mut first);
+        claim = torn(0, lacking); // opening's refusal first
+    } else if which == 2 {
+        (first, claim) = one_fault(rng, &mut opening);
     }
     let claim = claim.map(|claim| claim + " x");
     (Request::new(NAME_OF_TWO, &[id], &[&first, &second]), claim)

@@ -22,11 +22,13 @@ pub type Made = (Request, Option<String>);
 pub type Maker = fn(&mut Rng) -> Made;
 
 /// Kinds of cases, taken in turn. The first word is the function.
-pub const KINDS: [(&str, Maker); 58] = [
+pub const KINDS: [(&str, Maker); 69] = [
     ("header plain", packets::header_plain),
     ("header faults", packets::header_faults),
     ("header noise", packets::header_noise),
+    ("header torn", packets::header_torn),
     ("packet of type", packets::packet_of_type),
+    ("packet torn", packets::packet_torn),
     ("map valid", maps::map_valid),
     ("map newer", maps::map_newer),
     ("map one fault", maps::map_fault),
@@ -36,11 +38,14 @@ pub const KINDS: [(&str, Maker); 58] = [
     ("map bench damage", maps::map_bench),
     ("map noise", maps::map_noise),
     ("map position", maps::map_position),
+    ("map torn", maps::map_torn),
     ("map records", maps::map_records),
     ("name asked", maps::name_asked),
     ("name damaged", maps::name_damaged),
+    ("name torn", maps::name_torn),
     ("two maps", maps::two_maps),
     ("two maps damaged", maps::two_damaged),
+    ("two maps torn", maps::two_torn),
     ("aux valid", texts::valid),
     ("aux not given", texts::not_given),
     ("aux line fault", texts::line_fault),
@@ -53,8 +58,10 @@ pub const KINDS: [(&str, Maker); 58] = [
     ("locator valid", packets::locator_valid),
     ("locator faults", packets::locator_faults),
     ("locator damage", packets::locator_damage),
+    ("locator torn", packets::locator_torn),
     ("media valid", packets::media_valid),
     ("media faults", packets::media_faults),
+    ("media torn", packets::media_torn),
     ("check valid", streams::check_valid),
     ("check flt places", streams::check_flt),
     ("check runs without map", streams::check_runs),
@@ -63,11 +70,14 @@ pub const KINDS: [(&str, Maker); 58] = [
     ("check content", streams::check_content),
     ("check two faults", streams::check_pair),
     ("check first packet", streams::check_first),
+    ("check torn", streams::check_torn),
     ("check damage", streams::check_damage),
     ("seek found", streams::seek_found),
     ("seek asked", streams::seek_asked),
+    ("seek torn", streams::seek_torn),
     ("seek damage", streams::seek_damage),
     ("book build", books::build),
+    ("book build torn", books::build_torn),
     ("book build damage", books::build_damage),
     ("lookup found", books::lookup_found),
     ("lookup asked", books::lookup_asked),
@@ -80,6 +90,7 @@ pub const KINDS: [(&str, Maker); 58] = [
     ("map writer edges", writers::map_edges),
     ("map writer room", writers::map_room),
     ("walker stream", streams::walk_stream),
+    ("walker torn", streams::walk_torn),
     ("walker damage", streams::walk_damage),
 ];
 

@@ -81,7 +81,59 @@ pub fn damage(rng: &mut Rng, bytes: &mut Vec<u8>) {
 }
 
 pub fn refused(number: u8, place: u64) -> Option<String> {
+    assert_ne!(number, 5, "5 has a third figure");
     Some(format!("refused {number} {place}"))
+}
+
+/// 5 at a place, with so many bytes lacking.
+pub fn torn(place: u64, lacking: usize) -> Option<String> {
+    Some(format!("refused 5 {place} {lacking}"))
+}
+
+/// The most that a header can state.
+const MOST_STATED: usize = 0xFFFF_FFFC;
+
+/// Tears a whole packet: cuts bytes off its end, or states more in its header than it has, or both. Its type is no matter then.
+/// Gives how many bytes it lacks: those that were cut off and those that were never there.
+pub fn tear(rng: &mut Rng, packet: &mut Vec<u8>) -> usize {
+    let whole = packet.len();
+    let payload = whole - 16;
+    let cut = match rng.below(4) {
+        0 => 0,
+        1 => payload.min(1),
+        2 => payload,
+        _ => rng.below(payload + 1),
+    };
+    let more = match rng.below(8) {
+        0..=3 if cut > 0 => 0,
+        0..=3 => 4 * (1 + rng.below(4)),
+        4 => 4 * (1 + rng.below(4_000)),
+        5 => 65_536,
+        6 => rng.pick(&[0x100_0000, 0x7FFF_FFF0, 0x8000_0000]),
+        _ => MOST_STATED - whole,
+    };
+    packet.truncate(whole - cut);
+    state_length(packet, (whole + more) as u32);
+    if rng.chance(1, 6) {
+        packet[5] = rng.byte();
+    }
+    cut + more
+}
+
+/// Lends a packet that is torn: at times with bytes before it, and with fewer behind it than it lacks. Gives its position, the lent
+/// bytes and how many are still lacking.
+pub fn lend_torn(rng: &mut Rng, mut packet: Vec<u8>) -> (u64, Vec<u8>, usize) {
+    let lacking = tear(rng, &mut packet);
+    let before = if rng.chance(1, 2) { rng.below(41) } else { 0 };
+    let behind = if rng.chance(1, 3) {
+        rng.below(lacking.min(41))
+    } else {
+        0
+    };
+    let mut lent = rng.bytes(before);
+    lent.extend(packet);
+    lent.extend(rng.bytes(behind));
+    (before as u64, lent, lacking - behind)
 }
 
 pub fn header_plain(rng: &mut Rng) -> Made {
@@ -105,6 +157,7 @@ pub fn header_faults(rng: &mut Rng) -> Made {
     let mut bytes = packet(kind, &rng.bytes(n));
     let before = rng.below(9);
     let mut lowest = 99;
+    let mut more = 0;
     if rng.chance(1, 3) {
         bytes[rng.below(5)] ^= 1 << rng.below(8);
         lowest = lowest.min(2);
@@ -134,8 +187,10 @@ pub fn header_faults(rng: &mut Rng) -> Made {
             lowest = lowest.min(4);
         }
         1 => {
-            let beyond = bytes.len() as u32 + 4 * (1 + rng.below(3) as u32);
-            let long = rng.pick(&[beyond, beyond, 0x100_0000, 0x8000_0000, 0xFFFF_FFFC]);
+            let few = 4 * (1 + rng.below(3));
+            let most = MOST_STATED - bytes.len();
+            more = rng.pick(&[few, few, 0x100_0000, 0x8000_0000, most]);
+            let long = (bytes.len() + more) as u32;
             state_length(&mut bytes, long);
             lowest = lowest.min(5);
         }
@@ -147,12 +202,19 @@ pub fn header_faults(rng: &mut Rng) -> Made {
     }
     let mut lent = rng.bytes(before);
     lent.extend(&bytes);
-    let claim = if lowest == 99 {
-        Some(format!("packet {} {}", kind, bytes.len()))
-    } else {
-        refused(lowest, before as u64)
+    let claim = match lowest {
+        99 => Some(format!("packet {} {}", kind, bytes.len())),
+        5 => torn(before as u64, more),
+        _ => refused(lowest, before as u64),
     };
     (Request::new(HEADER, &[before as u64], &[&lent]), claim)
+}
+
+pub fn header_torn(rng: &mut Rng) -> Made {
+    let n = rng.below(20) * 4;
+    let bytes = packet(rng.byte(), &rng.bytes(n));
+    let (at, lent, lacking) = lend_torn(rng, bytes);
+    (Request::new(HEADER, &[at], &[&lent]), torn(at, lacking))
 }
 
 pub fn header_noise(rng: &mut Rng) -> Made {
@@ -193,6 +255,17 @@ pub fn packet_of_type(rng: &mut Rng) -> Made {
     }
     let request = Request::new(PACKET, &[at, u64::from(asked)], &[&lent]);
     (request, claim)
+}
+
+/// A torn packet of the asked type or another: 5 comes before 6.
+pub fn packet_torn(rng: &mut Rng) -> Made {
+    let kind = rng.pick(&[0xBC, 0xBF, 0xFB, 0xFC, 0xFD, 0xFF, 0x00]);
+    let asked = rng.pick(&[kind, kind, 0xBC, 0xFB]);
+    let n = rng.below(6) * 4;
+    let bytes = packet(kind, &rng.bytes(n));
+    let (at, lent, lacking) = lend_torn(rng, bytes);
+    let request = Request::new(PACKET, &[at, u64::from(asked)], &[&lent]);
+    (request, torn(at, lacking))
 }
 
 /// An FLT payload.
@@ -310,6 +383,18 @@ pub fn locator_damage(rng: &mut Rng) -> Made {
     (Request::new(POSITION, &[at, distance], &[&lent]), None)
 }
 
+/// A torn table, good or not: 5 comes before its content.
+pub fn locator_torn(rng: &mut Rng) -> Made {
+    let step = rng.pick(&[0, 1, 2, 40, u32::MAX]);
+    let stored = entries(rng);
+    let count = rng.pick(&[stored.len() as u32, 1_001]);
+    let bytes = packet(0xFC, &flt_payload(step, count, &stored));
+    let distance = distance(rng, step.max(1), stored.len() as u64);
+    let (at, lent, lacking) = lend_torn(rng, bytes);
+    let request = Request::new(POSITION, &[at, distance], &[&lent]);
+    (request, torn(at, lacking))
+}
+
 /// A media payload: preamble and some data.
 pub fn media_payload(
     kind: u8,
@@ -378,4 +463,17 @@ pub fn media_faults(rng: &mut Rng) -> Made {
         claim = None;
     }
     (Request::new(MEDIA, &[at], &[&lent]), claim)
+}
+
+/// A torn media packet, its preamble good or not: 5 comes before its content.
+pub fn media_torn(rng: &mut Rng) -> Made {
+    let rest = [rng.edge32(), rng.edge32()];
+    let n = rng.below(20);
+    let data = rng.bytes(n);
+    let mut payload = media_payload(rng.byte(), edge_id(rng), 0, rest, 0, &data);
+    if rng.chance(1, 4) {
+        payload.truncate(rng.below(4) * 4);
+    }
+    let (at, lent, lacking) = lend_torn(rng, packet(0xBF, &payload));
+    (Request::new(MEDIA, &[at], &[&lent]), torn(at, lacking))
 }

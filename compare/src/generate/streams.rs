@@ -2,7 +2,8 @@
 
 use super::maps::{self, Item, Model, Track};
 use super::packets::{
-    damage, edge_id, flt_payload, media_payload, packet, refused, stir_reserved, KNOWN_TYPES,
+    damage, edge_id, flt_payload, media_payload, packet, refused, stir_reserved, tear, torn,
+    KNOWN_TYPES,
 };
 use super::Made;
 use crate::request::{Request, CHECK, SEEK, WALK};
@@ -300,7 +301,7 @@ pub fn check_ends(rng: &mut Rng) -> Made {
                 0 if cut == 0 => refused(17, 0),
                 0 => refused(18, cut as u64),
                 1..=15 => refused(1, stream.offset(i)),
-                _ => refused(5, stream.offset(i)),
+                _ => torn(stream.offset(i), stream.offset(i + 1) as usize - cut),
             };
             (Request::new(CHECK, &[], &[&bytes]), claim)
         }
@@ -532,27 +533,50 @@ pub fn check_first(rng: &mut Rng) -> Made {
         _ => {
             let mut bytes = stream.bytes();
             bytes[5] = rng.byte();
-            let number = match rng.below(4) {
+            let claim = match rng.below(4) {
                 0 => {
                     bytes[rng.pick(&[0, 1, 2, 3, 4])] ^= 0x10;
-                    2
+                    refused(2, 0)
                 }
                 1 => {
                     bytes[14 + rng.below(2)] ^= 0x01;
-                    3
+                    refused(3, 0)
                 }
                 2 => {
                     bytes[9] |= 1;
-                    4
+                    refused(4, 0)
                 }
+                // 2^31 bytes more, of which those behind the packet are there
                 _ => {
                     bytes[6] = 0x80;
-                    5
+                    let behind = bytes.len() - stream.offset(1) as usize;
+                    torn(0, 0x8000_0000 - behind)
                 }
             };
-            (Request::new(CHECK, &[], &[&bytes]), refused(number, 0))
+            (Request::new(CHECK, &[], &[&bytes]), claim)
         }
     }
+}
+
+/// A good stream, and its bytes up to a packet that is torn: one of its own, or one that takes in all that stands behind it.
+/// Gives which packet it is and how many bytes it lacks.
+pub fn torn_stream(rng: &mut Rng) -> (Stream, Vec<u8>, usize, usize) {
+    let stream = good(rng);
+    let i = rng.below(stream.pieces.len());
+    let mut bytes = stream.bytes();
+    let mut packet = bytes.split_off(stream.offset(i) as usize);
+    if rng.chance(1, 2) {
+        packet.truncate(stream.pieces[i].bytes.len());
+    }
+    let lacking = tear(rng, &mut packet);
+    bytes.extend(packet);
+    (stream, bytes, i, lacking)
+}
+
+pub fn check_torn(rng: &mut Rng) -> Made {
+    let (stream, bytes, i, lacking) = torn_stream(rng);
+    let claim = torn(stream.offset(i), lacking);
+    (Request::new(CHECK, &[], &[&bytes]), claim)
 }
 
 /// Packets moved, doubled, dropped, and bytes damaged.
@@ -662,6 +686,14 @@ pub fn seek_damage(rng: &mut Rng) -> Made {
     (Request::new(SEEK, &[track, field], &[&bytes]), None)
 }
 
+/// A field that stands before the torn packet is not given either.
+pub fn seek_torn(rng: &mut Rng) -> Made {
+    let (stream, bytes, i, lacking) = torn_stream(rng);
+    let (track, field) = question(rng, &stream, false);
+    let claim = torn(stream.offset(i), lacking);
+    (Request::new(SEEK, &[track, field], &[&bytes]), claim)
+}
+
 pub fn damaged_bytes(rng: &mut Rng) -> Vec<u8> {
     stirred(rng)
 }
@@ -704,4 +736,18 @@ pub fn walk_damage(rng: &mut Rng) -> Made {
     };
     let n = rng.below(14) as u64;
     walk(&bytes, n, None)
+}
+
+/// Up to the torn packet, and some steps that do not pass it.
+pub fn walk_torn(rng: &mut Rng) -> Made {
+    let (stream, bytes, i, lacking) = torn_stream(rng);
+    let stays = 1 + rng.below(3);
+    let mut claim = "walk".to_string();
+    for (k, piece) in stream.pieces[..i].iter().enumerate() {
+        let (kind, length) = (piece.kind, piece.bytes.len());
+        claim += &format!(" packet {kind} {length} {}", stream.offset(k + 1));
+    }
+    let place = stream.offset(i);
+    claim += &format!(" refused 5 {place} {lacking} {place}").repeat(stays);
+    walk(&bytes, (i + stays) as u64, Some(claim))
 }

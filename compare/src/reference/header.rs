@@ -1,6 +1,6 @@
 //! 01, Header (clause 6, Table 2).
 
-use super::plate::{most_first, refuse, Answer};
+use super::plate::{most_first, refuse, torn, Answer};
 
 pub const MAP: u8 = 0xBC;
 pub const MEDIA: u8 = 0xBF;
@@ -14,7 +14,8 @@ pub struct Header {
     pub length: u64,
 }
 
-/// Order 1 to 5; every one of them lies at the asked position, past the end too (D1).
+/// Order 1 to 5; every one of them lies at the asked position, past the end too (D1). 5 gives the packet's length less the bytes
+/// left, counted from its first byte; of 1 no length is known.
 pub fn header(bytes: &[u8], at: u64) -> Answer<Header> {
     let left = (bytes.len() as u64).saturating_sub(at);
     if left < 16 {
@@ -32,7 +33,7 @@ pub fn header(bytes: &[u8], at: u64) -> Answer<Header> {
         return refuse(4, at);
     }
     if length > left {
-        return refuse(5, at);
+        return torn(at, length - left);
     }
     Ok(Header {
         kind: head[5],

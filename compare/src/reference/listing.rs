@@ -8,7 +8,7 @@ pub fn listing(input: &[u8]) -> String {
         return "refused 13 0\n".to_string(); // the size test comes first
     }
     match packets(input) {
-        Err(refusal) => format!("refused {} {}\n", refusal.number, refusal.place),
+        Err(refusal) => format!("{refusal}\n"),
         Ok(pieces) => {
             let mut lines = String::new();
             for piece in &pieces {

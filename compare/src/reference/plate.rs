@@ -1,4 +1,6 @@
-//! 01, The refusal plate: every refusal is a number and a place.
+//! 01, The refusal plate: every refusal is a number and a place, and 5 also says how many bytes are still lacking (02, §4).
+
+use std::fmt;
 
 /// The numbers of the plate. 25 is not used, and no refusal takes it again (F22).
 pub const PLATE: [u8; 26] = [
@@ -9,12 +11,40 @@ pub const PLATE: [u8; 26] = [
 pub struct Refusal {
     pub number: u8,
     pub place: u64,
+    /// Bytes that the packet lacks, of 5 alone; 0 of every other number.
+    pub lacking: u64,
+}
+
+/// As lines and the listing tell it: the third figure stands exactly where the number is 5.
+impl fmt::Display for Refusal {
+    fn fmt(&self, f: &mut fmt::Formatter) -> fmt::Result {
+        write!(f, "refused {} {}", self.number, self.place)?;
+        if self.number == 5 {
+            write!(f, " {}", self.lacking)?;
+        }
+        Ok(())
+    }
 }
 
 pub type Answer<T> = Result<T, Refusal>;
 
+/// Any refusal but 5.
 pub fn refuse<T>(number: u8, place: u64) -> Answer<T> {
-    Err(Refusal { number, place })
+    assert_ne!(number, 5, "5 has a third figure");
+    Err(Refusal {
+        number,
+        place,
+        lacking: 0,
+    })
+}
+
+/// 5, with so many bytes lacking.
+pub fn torn<T>(place: u64, lacking: u64) -> Answer<T> {
+    Err(Refusal {
+        number: 5,
+        place,
+        lacking,
+    })
 }
 
 /// Table 5 as 01 lists it: 3, 4, 7 to 18, 20 to 26.

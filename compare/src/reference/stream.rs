@@ -16,11 +16,11 @@ pub struct Piece {
     pub media: Option<Preamble>,
 }
 
-/// A check adds the packet's offset to places inside a packet.
+/// A check adds the packet's offset to places inside a packet. 5 is no such place, and comes from the header as it is.
 fn inside<T>(answer: Answer<T>, offset: u64) -> Answer<T> {
     answer.map_err(|r| Refusal {
-        number: r.number,
         place: r.place + offset,
+        ..r
     })
 }
 
