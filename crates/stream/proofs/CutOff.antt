@@ -23,14 +23,13 @@ use Rattle.order.specs.Order.{started}
 use Rattle.order.specs.declared.Progress.{Progress}
 use Rattle.order.specs.declared.Step.{Step}
 use Rattle.order.specs.declared.Step.the-variants as step
-use Rattle.order.proofs.Laws.{step-next, step-next-any, step-ended}
+use Rattle.order.proofs.Laws.{step-next, step-ended}
 use Rattle.stream.specs.Stream.{Placed, Packets, runsOut, closed, typesAfter, onPiece, packetsFrom, packets, onStep, stepAt, judgePackets, checkOf}
 use Rattle.stream.specs.Lacking.{CheckRefuses, SeekRefuses, StreamCutOff}
 use Rattle.stream.specs.declared.CheckAnswer.{CheckAnswer}
 use Rattle.stream.specs.declared.CheckAnswer.the-variants as check
-use Rattle.stream.proofs.Laws.{turn, fuel}
+use Rattle.stream.proofs.Laws.{turn, fuel, judged, onward}
 use Rattle.stream.proofs.Sought.{refused-alike}
-use Rattle.stream.proofs.Torn.{judged}
 
 -- x is the packet, cut at k of its own bytes
 module _ (s : List ℕ) (x : Placed) (after : List Placed) (k : ℕ) (header : 16 ≤ k) (inside : k < x .piece .len) where
@@ -82,13 +81,11 @@ module _ (s : List ℕ) (x : Placed) (after : List Placed) (k : ℕ) (header : 1
     -- it stands before that
     earlier : (before : List Placed) → behind .list ≡ before ++ (x ∷ after) → (a : Step) → stepAt (length s) p here ≡ a → onStep (λ q. judged (length s) q behind) a ≡ check.Packets n
         → Comes at (judged (length part) p (packetsFrom part g first types at))
-    unfolding judgePackets
     earlier before m (step.Refused r) i e = absurd (let z : _≡_ {A = ℕ} 0 1 = cc in omega arith)
     earlier before m (step.Ended j) i e =
         no-list before (rw (step-ended p y at (getD (typesAfter s at y types) (y .track) 0) (ltb (at + y .len) (length s)) j i) at m)
     earlier before m (step.Next q) i e =
         let v = step-next p y at (getD (typesAfter s at y types) (y .track) 0) (ltb (at + y .len) (length s)) q i in
-        let again = step-next-any p y at (getD (typesAfter s at y types) (y .track) 0) (ltb (at + y .len) (length s)) q i (ltb (at + y .len) (length part)) in
         let b = told s at first y w in
         let c = rest (g - 1) false (typesAfter s at y types) (at + y .len) q n before (omega (arith, b .cut .least, b .cut .within)) (rw (v .0) at e) (rw (v .0) at m) in
         let d : length part ≡ x .at + k = length-take-le (x .at + k) s (omega (arith, c .within)) in
@@ -96,8 +93,9 @@ module _ (s : List ℕ) (x : Placed) (after : List Placed) (k : ℕ) (header : 1
           behind = omega (arith, c .behind);
           within = c .within;
           same =
-              ap (judged (length part) p) (turn part g first types at (omega arith) (omega (arith, c .behind)))
-              ∙ rw (piece-within s at first y w (x .at + k) (omega (arith, c .behind)) (omega (arith, c .within)), cut-within s at (y .len) (x .at + k) (omega (arith, c .behind)) (omega (arith, c .within)), again, v .0) (c .same);
+              onward s part g first types at p y q (omega arith) (omega (arith, c .behind)) (piece-within s at first y w (x .at + k) (omega (arith, c .behind)) (omega (arith, c .within)))
+              (cut-within s at (y .len) (x .at + k) (omega (arith, c .behind)) (omega (arith, c .within))) i
+              ∙ c .same;
         }
 
     on-list : (before : List Placed) → (here ∷ behind .list) ≡ before ++ (x ∷ after) → judged (length s) p (inFront here behind) ≡ check.Packets n

@@ -4,7 +4,7 @@ use mathlib.Core.Path.{_≡_, refl, sym, _∙_, ap}
 use mathlib.Core.List.{List}
 use mathlib.Core.Bool.{Bool, true, false}
 use native.Mathlib.Omega.{arith}
-use lib.ListN.{length, getD, replicate}
+use lib.ListN.{length, getD, take, drop, replicate}
 use lib.Dec.{eqb, ltb}
 use borrow.Author.Tests.{lt-ltb, le-ltb, ne-eqb}
 use Rattle.plate.specs.Choice.{pick}
@@ -18,8 +18,8 @@ use Rattle.piece.proofs.Laws.{told}
 use Rattle.order.specs.Order.{started, progressAfter, stepOf}
 use Rattle.order.specs.declared.Progress.{Progress}
 use Rattle.order.specs.declared.Step.the-variants as step
-use Rattle.order.proofs.Laws.{step-next, step-ended}
-use Rattle.stream.specs.Stream.{Packets, runsOut, closed, typesAfter, onPiece, packetsFrom, packets, ranOut, onStep, judgePackets, checkOf, carriesPiece, firstOf, orNotThere, ifChecked, seekOf}
+use Rattle.order.proofs.Laws.{step-next, step-next-any, step-ended}
+use Rattle.stream.specs.Stream.{Packets, runsOut, closed, typesAfter, onPiece, packetsFrom, packets, ranOut, onStep, stepAt, judgePackets, checkOf, carriesPiece, firstOf, orNotThere, ifChecked, seekOf}
 use Rattle.stream.specs.Inside.{orFirst, firstHere, collect, runOf}
 use Rattle.stream.specs.declared.Spot.{Spot}
 use Rattle.stream.specs.declared.Spot.the-variants as spot
@@ -70,6 +70,21 @@ fuel s (suc f) (suc g) first types at h k = step (λ ts o l m. fuel s f g false 
         let w = told s at first x e in
         ap (λ (ps : Packets). inFront (record { at = at; piece = x; types = typesAfter s at x types }) (pick (eqb (x .«packet_type») 0xFB) (none closed) ps))
         (next (typesAfter s at x types) (at + x .len) (omega (arith, w .cut .least, w .cut .within)) (omega (arith, w .cut .least, w .cut .within)))
+
+-- what packets come to in a stream of n bytes, after some progress
+abbrev pub judged : ℕ → Progress → Packets → CheckAnswer
+judged n p ps = judgePackets n p (ps .list) (ps .end)
+
+-- a packet of s that passes, passes in other bytes z too that have it there, and what z comes to is what it comes to behind it
+pub onward : (s z : List ℕ) (g : ℕ) (first : Bool) (types : List ℕ) (at : ℕ) (p : Progress) (x : Piece) (q : Progress) → zero < g → at < length z
+    → pieceAt z at first ≡ piece.Whole x → take (x .len) (drop at z) ≡ take (x .len) (drop at s)
+    → stepAt (length s) p (record { at = at; piece = x; types = typesAfter s at x types }) ≡ step.Next q
+    → judged (length z) p (packetsFrom z g first types at) ≡ judged (length z) q (packetsFrom z (g - 1) false (typesAfter s at x types) (at + x .len))
+unfolding judgePackets
+onward s z g first types at p x q h l w same k =
+    let n = step-next p x at (getD (typesAfter s at x types) (x .track) 0) (ltb (at + x .len) (length s)) q k in
+    let again = step-next-any p x at (getD (typesAfter s at x types) (x .track) 0) (ltb (at + x .len) (length s)) q k (ltb (at + x .len) (length z)) in
+    ap (judged (length z) p) (turn z g first types at h l) ∙ rw (w, same, again, n .0)
 
 -- a first carrier so far, this packet, and what follows
 first-assoc : (found : Spot) (b : Bool) (at : ℕ) (later : Spot) → orFirst found (pick b (spot.At at) later) ≡ orFirst (orFirst found (pick b (spot.At at) spot.Nothing)) later

@@ -27,7 +27,7 @@ use Rattle.order.specs.Order.{started, stepOf}
 use Rattle.order.specs.declared.Progress.{Progress}
 use Rattle.order.specs.declared.Step.{Step}
 use Rattle.order.specs.declared.Step.the-variants as step
-use Rattle.order.proofs.Laws.{step-next, step-next-any}
+use Rattle.order.proofs.Laws.{step-next}
 use Rattle.order.proofs.Numbers.{OfStep, step-numbers}
 use Rattle.stream.specs.Stream.{Packets, runsOut, closed, stops, typesAfter, onPiece, packetsFrom, packets, ranOut, onStep, stepAt, judgePackets, checkOf, firstOf, orNotThere, ifChecked, seekOf}
 use Rattle.stream.specs.Lacking.{CheckRefuses, SeekRefuses, bytesOf, StreamLacking, StreamOpens}
@@ -36,13 +36,9 @@ use Rattle.stream.specs.declared.CheckAnswer.the-variants as check
 use Rattle.stream.specs.declared.Spot.{Spot}
 use Rattle.stream.specs.declared.Spot.the-variants as spot
 use Rattle.stream.specs.declared.SeekAnswer.the-variants as seek
-use Rattle.stream.proofs.Laws.{turn, out}
+use Rattle.stream.proofs.Laws.{turn, out, judged, onward}
 use Rattle.stream.proofs.Numbers.{OfCheck, out-numbers, check-numbers, OfSeek, seek-numbers}
 use Rattle.stream.proofs.Sought.{refused-alike}
-
--- what packets come to in a stream of n bytes, after some progress
-abbrev pub judged : ℕ → Progress → Packets → CheckAnswer
-judged n p ps = judgePackets n p (ps .list) (ps .end)
 
 -- the packets ps of s, from an offset on, stop at a torn one, and what s with t behind it comes to is what it comes to from there on
 record Comes (s t : List ℕ) (r : Refusal) (at : ℕ) (ps : Packets) (whole : CheckAnswer) : Type 0 where
@@ -70,11 +66,7 @@ module _ (s t : List ℕ) (r : Refusal) (five : r .number ≡ 5) where
       → stepAt (length s) p (record { at = at; piece = x; types = typesAfter s at x types }) ≡ step.Next q
       → (ps : Packets) → Comes s t r (at + x .len) ps (judged (length (s ++ t)) q (packetsFrom (s ++ t) (g - 1) false (typesAfter s at x types) (at + x .len)))
       → Comes s t r at (inFront (record { at = at; piece = x; types = typesAfter s at x types }) ps) (judged (length (s ++ t)) p (packetsFrom (s ++ t) g first types at))
-  unfolding judgePackets
   later at first types p g x q h l w k ps c =
-      let b = told s at first x w in
-      let n = step-next p x at (getD (typesAfter s at x types) (x .track) 0) (ltb (at + x .len) (length s)) q k in
-      let again = step-next-any p x at (getD (typesAfter s at x types) (x .track) 0) (ltb (at + x .len) (length s)) q k (ltb (at + x .len) (length (s ++ t))) in
       record {
         ends = c .ends;
         behind = omega (arith, c .behind);
@@ -86,8 +78,8 @@ module _ (s t : List ℕ) (r : Refusal) (five : r .number ≡ 5) where
         fuel = c .fuel;
         enough = c .enough;
         same =
-            ap (judged (length (s ++ t)) p) (turn (s ++ t) g first types at (omega arith) (omega (arith, length-append s t)))
-            ∙ (rw (piece-before s t at first x w, cut-before s t at (x .len) (b .cut .within), again, n .0) (c .same));
+            onward s (s ++ t) g first types at p x q (omega arith) (omega (arith, length-append s t)) (piece-before s t at first x w) (cut-before s t at (x .len) (told s at first x w .cut .within)) k
+            ∙ c .same;
       }
 
   -- from an offset on, with fuel f for the packets of s
@@ -216,7 +208,7 @@ lacking-of Refuses to back s r e n =
       torn-packet = λ five. let c = check-comes s [] r five (back s r e five) in (c .ends, omega (arith, c .behind), c .header);
       whole = λ five t h. header.lacking s (r .place) r (check-comes s [] r five (back s r e five) .header) .enough five t h;
       enough = λ five t h q f again. check-enough s t r five (back s r e five) h q (back (s ++ t) q f again) again;
-      fewer = λ five t h. to (s ++ t) _ (check-fewer s t r five (back s r e five) h);
+      fewer = λ five t h. subst (λ (k : ℕ). Refuses (s ++ t) (torn (r .place) k)) (omega arith) (to (s ++ t) _ (check-fewer s t r five (back s r e five) h));
     }
 
 pub check-lacking : (s : List ℕ) (r : Refusal) → CheckRefuses s r → StreamLacking CheckRefuses s r
