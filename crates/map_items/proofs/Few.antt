@@ -38,7 +38,7 @@ unfolding has
 free-past first zero x ids h = refl
 free-past first (suc n) x ids h = rw (ne-eqb (first + n) x (λ e. omega arith), free-past first n x ids (omega arith))
 
-under : (m x : ℕ) → x ≤ m → (m ≡ x → ⊥) → x < m
+pub under : (m x : ℕ) → x ≤ m → (m ≡ x → ⊥) → x < m
 under m x h d = go (ltb x m) refl
   where
     go : (b : Bool) → ltb x m ≡ b → x < m

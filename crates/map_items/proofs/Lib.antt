@@ -1,3 +1,4 @@
+pub mod Alone
 pub mod Anywhere
 pub mod Few
 pub mod Judged

@@ -1,18 +1,19 @@
 -- An item found by its tag, a turn at a time, and what is known of it.
 use Prim.Native.Nat.{ℕ, suc, _+_, _-_, _<_, _≤_}
-use mathlib.Core.Path.{_≡_, sym, _∙_, ap}
+use mathlib.Core.Path.{_≡_, refl, sym, _∙_, ap}
 use mathlib.Core.List.{List, [], _∷_, _++_, append-assoc}
 use mathlib.Core.Bool.{Bool, true, false}
 use native.Mathlib.Omega.{arith}
 use native.Mathlib.Nat.{add-zero}
 use lib.ListN.{length, getD, take, drop, replicate, length-append, length-replicate}
 use lib.Seq.{take-append-seam, drop-append-add}
-use lib.Dec.{eqb}
-use borrow.Author.Tests.{eq-eqb, ne-eqb}
+use lib.Dec.{ltb, eqb}
+use borrow.Author.Tests.{eq-eqb, ne-eqb, ltb-true, ltb-false}
 use Rattle.plate.specs.Choice.{pick}
-use Rattle.map_items.specs.Items.{Item, splitItems, sectionOf, itemsSize, itemsBytes}
+use Rattle.map_items.specs.Items.{Item, Parts, splitItems, sectionOf, itemsSize, itemsBytes}
 use Rattle.map_items.specs.Find.{found, find, partOf}
 use Rattle.map_items.specs.declared.Part.the-variants.{At, Absent}
+use Rattle.map_items.proofs.Anywhere.{never}
 use Rattle.map_items.proofs.Split.{value-length, split-done, split-short, split-over, split-item, length-bytes, section-front}
 
 -- what is left to find from a place on is the whole answer
@@ -52,6 +53,41 @@ module _ (tag : ℕ) (s : List ℕ) (base at : ℕ) (l : Left tag s base at) whe
 
       pub on-next : (getD s at 0 ≡ tag → ⊥) → Left tag s base (at + 2 + n)
       on-next q = record { fuel = l .fuel - 1; enough = omega (arith, l .enough); same = turn ∙ rw (ne-eqb _ _ q) }
+
+-- in a section that ends where an item ends, no length needs a test
+pub record Whole (tag : ℕ) (s : List ℕ) (base at : ℕ) : Type 0 where
+  pub left : Left tag s base at
+  pub whole : splitItems (left .fuel) (drop at s) .end ≡ true
+
+pub whole-start : (tag : ℕ) (s : List ℕ) (base : ℕ) → sectionOf s .end ≡ true → Whole tag s base 0
+unfolding sectionOf
+whole-start tag s base e = record { left = record { fuel = suc (length s); enough = omega arith; same = rw add-zero }; whole = e }
+
+module _ (tag : ℕ) (s : List ℕ) (base at : ℕ) (w : Whole tag s base at) (h : at < length s) where
+  -- an item's tag and length are there, and then its bytes
+  pub two-there : 2 ≤ length s - at
+  two-there = go (ltb (length s - at) 2) refl
+    where
+      go : (b : Bool) → ltb (length s - at) 2 ≡ b → 2 ≤ length s - at
+      go true e =
+          let k = ltb-true (length s - at) 2 e in
+          never (sym (w .whole) ∙ ap (λ (p : Parts). p .end) (split-short s at (w .left .fuel) (omega (arith, w .left .enough)) (omega arith)))
+      go false e = ltb-false (length s - at) 2 e
+
+  pub all-there : (n : ℕ) → n ≡ getD s (at + 1) 0 → n ≤ length s - at - 2
+  all-there n e = go (ltb (length s - at - 2) n) refl
+    where
+      go : (b : Bool) → ltb (length s - at - 2) n ≡ b → n ≤ length s - at - 2
+      go true q = never (sym (w .whole) ∙ ap (λ (p : Parts). p .end) (split-over s at (w .left .fuel) (omega (arith, w .left .enough)) n two-there e (ltb-true (length s - at - 2) n q)))
+      go false q = ltb-false (length s - at - 2) n q
+
+  pub whole-next : (n : ℕ) → n ≡ getD s (at + 1) 0 → (getD s at 0 ≡ tag → ⊥) → Whole tag s base (at + 2 + n)
+  unfolding on-next
+  whole-next n e q =
+      record {
+        left = on-next tag s base at (w .left) two-there n e (all-there n e) q;
+        whole = sym (ap (λ (p : Parts). p .end) (split-item s at (w .left .fuel) (omega (arith, w .left .enough)) n two-there e (all-there n e))) ∙ w .whole;
+      }
 
 -- what is found among items stands where it is said to, in any bytes that hold the items
 pub record Stands (s : List ℕ) (from to q : ℕ) (v : List ℕ) : Type 0 where

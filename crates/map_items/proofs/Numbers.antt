@@ -1,4 +1,4 @@
--- The refusal of a section's items has a number from 7 to 12, as all of a map's own refusals have, and no bytes lack with it.
+-- The refusal of a section's items has a number from 8 to 11, and no bytes lack with it.
 use Prim.Native.Nat.{ℕ, _+_, _≤_}
 use mathlib.Core.Path.{refl}
 use mathlib.Core.Bool.{Bool, true, false}
@@ -18,10 +18,10 @@ use Rattle.map_items.specs.declared.Form.the-variants as form
 use Rattle.map_items.specs.declared.Verdict.{Verdict}
 use Rattle.map_items.specs.declared.Verdict.the-variants as verdict
 
--- a map's own refusal
+-- an item's refusal
 abbrev pub Own : Verdict → Type 0
 Own verdict.Accepted = Unit {0}
-Own (verdict.Refused r) = Among 7 12 r
+Own (verdict.Refused r) = Among 8 11 r
 
 pub both : (v w : Verdict) → Own v → Own w → Own (andThen v w)
 both verdict.Accepted w h k = k

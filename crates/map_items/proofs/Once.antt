@@ -15,6 +15,8 @@ use Rattle.map_items.proofs.judge.Kinds as judge-kinds
 use Rattle.map_items.proofs.judge.Reads as judge-reads
 use Rattle.map_items.proofs.found.Kinds as found-kinds
 use Rattle.map_items.proofs.found.Reads as found-reads
+use Rattle.map_items.proofs.found_in_whole.Kinds as found-in-whole-kinds
+use Rattle.map_items.proofs.found_in_whole.Reads as found-in-whole-reads
 
 pub refused-once : OneAnswer 0 refused-kinds.ps refused-kinds.r refused-reads.Post
 refused-once κs a x y s t p q = p ∙ sym q
@@ -36,3 +38,6 @@ judge-once κs a x y s t p q = p ∙ sym q
 
 pub found-once : OneAnswer 1 found-kinds.ps found-kinds.r found-reads.Post
 found-once κs a x y s t p q = p ∙ sym q
+
+pub found-in-whole-once : OneAnswer 1 found-in-whole-kinds.ps found-in-whole-kinds.r found-in-whole-reads.Post
+found-in-whole-once κs a x y s t p q = p ∙ sym q

@@ -2,6 +2,7 @@
 // It serves the map reader, which hands it parts of a packet; what asks for bounds here is met there for every input.
 use plate::Refusal;
 ghost use mathlib.Core.Path.{_≡_};
+ghost use mathlib.Core.Bool.{true};
 ghost use Prim.Native.Nat.{_+_, _<_, _^_};
 ghost use lib.ListN.{length};
 ghost use Rattle.map_items.specs.Items.{sectionOf};
@@ -181,6 +182,22 @@ pub fn found(s: &[u8], base: usize, tag: u8) -> Part
         if left - 2 < n {
             return Part::Absent;
         }
+        if s[at] == tag {
+            return Part::At(base + at + 2, n); // behind its tag and length
+        }
+        at = at + 2 + n;
+    }
+    Part::Absent
+}
+
+// The same in a section that ends where an item ends, as an accepted one does: no length is tested again.
+pub fn found_in_whole(s: &[u8], base: usize, tag: u8) -> Part
+    requires { ⌜ (base + length (now s) < 2 ^ 64) × (sectionOf (now s) .end ≡ true) ⌝ }
+    ensures { λ r. ⌜ r ≡ partOf (find tag base (sectionOf (now (s .entry)) .list)) ⌝ }
+{
+    let mut at: usize = 0;
+    while at < s.len() {
+        let n = number::wide(s[at + 1]);
         if s[at] == tag {
             return Part::At(base + at + 2, n);
         }
