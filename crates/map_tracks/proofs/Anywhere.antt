@@ -13,18 +13,23 @@ use Rattle.map_items.specs.declared.Section.the-variants as section
 use Rattle.map_items.specs.declared.Verdict.{Verdict}
 use Rattle.map_items.specs.declared.Verdict.the-variants.{Accepted}
 use Rattle.map_items.proofs.Anywhere.{not-accepted, both-accepted, verdict-accepted, judge-anywhere}
+use Rattle.map_tracks.proofs.Form.{over-anywhere}
 use Rattle.map_tracks.specs.Tracks.{Description, End, over, short, hangs, onBytes, trackOver, trackVerdict, endVerdict, judgeTracks}
 
 -- a track's items and its end
+pub track-accepted : (typeByte : ℕ) (s : List ℕ) (p : ℕ) → trackVerdict typeByte s p ≡ Accepted → (verdictOf section.Track s p ≡ Accepted) × (trackOver typeByte (sectionOf s .list) p ≡ Accepted)
+unfolding trackVerdict
+track-accepted typeByte s p e = both-accepted (verdictOf section.Track s p) (trackOver typeByte (sectionOf s .list) p) e
+
 pub track-anywhere : (typeByte : ℕ) (s : List ℕ) (p q : ℕ) → trackVerdict typeByte s p ≡ Accepted → trackVerdict typeByte s q ≡ Accepted
 unfolding trackVerdict verdictOf
 track-anywhere typeByte s p q e =
-    let a = verdict-accepted section.Track s p (both-accepted (verdictOf section.Track s p) (trackOver typeByte s p) e .0) in
-    rw (judge-anywhere section.Track [] p q (sectionOf s .list) (a .0), a .1)
+    let b = track-accepted typeByte s p e in
+    let a = verdict-accepted section.Track s p (b .0) in
+    rw (judge-anywhere section.Track [] p q (sectionOf s .list) (a .0), a .1) (over-anywhere typeByte (sectionOf s .list) p q (b .1))
 
 pub track-whole : (typeByte : ℕ) (s : List ℕ) (p : ℕ) → trackVerdict typeByte s p ≡ Accepted → sectionOf s .end ≡ true
-unfolding trackVerdict
-track-whole typeByte s p e = verdict-accepted section.Track s p (both-accepted (verdictOf section.Track s p) (trackOver typeByte s p) e .0) .1
+track-whole typeByte s p e = verdict-accepted section.Track s p (track-accepted typeByte s p e .0) .1
 
 -- what a track has met, after tracks of some IDs, and what follows it
 pub record Passed (ids : List ℕ) (p : ℕ) (d : Description) (ds : List Description) (e : End) : Type 0 where
@@ -34,13 +39,17 @@ pub record Passed (ids : List ℕ) (p : ℕ) (d : Description) (ds : List Descri
   pub items : trackVerdict (d .typeByte) (d .items) (p + 4) ≡ Accepted
   pub rest : judgeTracks (d .id ∷ ids) (p + 4 + length (d .items)) ds e ≡ Accepted
 
-bytes-accepted : (k i p : ℕ) (next : Verdict) → onBytes k i p next ≡ Accepted → (0x80 ≤ k) × (0xC0 ≤ i) × (next ≡ Accepted)
-bytes-accepted k i p next e = go (ltb k 0x80) (ltb i 0xC0) refl refl e
+-- by a header's bytes: 12, or what follows
+pub by-bytes : {X : Type 0} (k i p : ℕ) (next v : Verdict) → onBytes k i p next ≡ v → (bad 12 p ≡ v → X) → (0x80 ≤ k → 0xC0 ≤ i → next ≡ v → X) → X
+by-bytes {X} k i p next v e low high = go (ltb k 0x80) (ltb i 0xC0) refl refl e
   where
-    go : (a b : Bool) → ltb k 0x80 ≡ a → ltb i 0xC0 ≡ b → pick a (bad 12 p) (pick b (bad 12 p) next) ≡ Accepted → (0x80 ≤ k) × (0xC0 ≤ i) × (next ≡ Accepted)
-    go true b q r e = not-accepted 12 p e
-    go false true q r e = not-accepted 12 p e
-    go false false q r e = (ltb-false _ _ q, ltb-false _ _ r, e)
+    go : (a b : Bool) → ltb k 0x80 ≡ a → ltb i 0xC0 ≡ b → pick a (bad 12 p) (pick b (bad 12 p) next) ≡ v → X
+    go true b q r e = low e
+    go false true q r e = low e
+    go false false q r e = high (ltb-false _ _ q) (ltb-false _ _ r) e
+
+bytes-accepted : (k i p : ℕ) (next : Verdict) → onBytes k i p next ≡ Accepted → (0x80 ≤ k) × (0xC0 ≤ i) × (next ≡ Accepted)
+bytes-accepted k i p next e = by-bytes k i p next Accepted e (λ f. not-accepted 12 p f) (λ a b f. (a, b, f))
 
 pub passed : (ids : List ℕ) (p : ℕ) (d : Description) (ds : List Description) (e : End) → judgeTracks ids p (d ∷ ds) e ≡ Accepted → Passed ids p d ds e
 unfolding judgeTracks

@@ -1,36 +1,46 @@
 -- The place of a track section's fault stands in the section.
-use Prim.Native.Nat.{ℕ, _+_, _≤_}
-use mathlib.Core.Path.{_≡_}
+use Prim.Native.Nat.{ℕ, _+_, _-_, _≤_}
+use mathlib.Core.Path.{_≡_, refl}
 use mathlib.Core.Bool.{Bool, true, false}
 use mathlib.Core.List.{List, [], _∷_}
 use native.Mathlib.Omega.{arith}
 use lib.ListN.{length}
-use lib.Dec.{ltb}
 use Rattle.plate.specs.Choice.{pick}
 use Rattle.plate.specs.declared.Refusal.{Refusal}
 use Rattle.map_items.specs.Judge.{bad, andThen, has, verdictOf}
 use Rattle.map_items.specs.declared.Section.the-variants as section
 use Rattle.map_items.specs.declared.Verdict.{Verdict}
-use Rattle.map_items.specs.declared.Verdict.the-variants.{Refused}
+use Rattle.map_items.specs.declared.Verdict.the-variants.{Accepted, Refused}
+use Rattle.map_items.specs.Items.{sectionOf}
+use Rattle.map_items.specs.Find.{Found, missing, found, find, partOf}
+use Rattle.map_items.proofs.Lookup.{section-stands}
+use Rattle.media_type.specs.MediaType.{knownType, wrongForm}
+use Rattle.map_answer.specs.Answer.{isNull}
 use Rattle.map_items.proofs.Places.{at-place, not-refused, either-part}
 use Rattle.map_items.proofs.Places as items
-use Rattle.map_tracks.specs.Tracks.{Description, End, over, short, hangs, tracksOf, onBytes, trackOver, trackVerdict, endVerdict, judgeTracks, tracksVerdict}
+use Rattle.map_tracks.specs.Tracks.{Description, End, over, short, hangs, tracksOf, onBytes, onForm, trackOver, trackVerdict, endVerdict, judgeTracks, tracksVerdict}
 use Rattle.map_tracks.specs.Inside.{descriptionsSize}
+use Rattle.map_tracks.proofs.Anywhere.{by-bytes}
 use Rattle.map_tracks.proofs.Split.{section-size}
 
 -- a header's bytes, or what follows
 bytes-place : {X : Type 0} (k i p : ℕ) (next : Verdict) (r : Refusal) → onBytes k i p next ≡ Refused r → (r .place ≡ p → X) → (next ≡ Refused r → X) → X
-bytes-place {X} k i p next r e f g = go (ltb k 0x80) (ltb i 0xC0) e
+bytes-place k i p next r e f g = by-bytes k i p next (Refused r) e (λ h. f (at-place 12 p r h)) (λ a b h. g h)
+
+over-place : (typeByte : ℕ) (s : List ℕ) (p : ℕ) (r : Refusal) → trackOver typeByte (sectionOf s .list) p ≡ Refused r → r .place ≤ p + length s
+unfolding trackOver
+over-place typeByte s p r = go (knownType (typeByte - 0x80)) (isNull (partOf (find 0x4C p (sectionOf s .list)))) (find (wrongForm (typeByte - 0x80)) p (sectionOf s .list)) refl
   where
-    go : (a b : Bool) → pick a (bad 12 p) (pick b (bad 12 p) next) ≡ Refused r → X
-    go true b e = f (at-place 12 p r e)
-    go false true e = f (at-place 12 p r e)
-    go false false e = g e
+    go : (k z : Bool) (x : Found) → find (wrongForm (typeByte - 0x80)) p (sectionOf s .list) ≡ x → pick k (pick z Accepted (onForm x)) Accepted ≡ Refused r → r .place ≤ p + length s
+    go false z x f e = not-refused r e
+    go true true x f e = not-refused r e
+    go true false missing f e = not-refused r e
+    go true false (found q v) f e = omega (arith, at-place 29 (q - 2) r e, section-stands (wrongForm (typeByte - 0x80)) p s q v f .1)
 
 track-place : (typeByte : ℕ) (items : List ℕ) (p : ℕ) (r : Refusal) → trackVerdict typeByte items p ≡ Refused r → r .place ≤ p + length items
 unfolding trackVerdict
 track-place typeByte s p r e =
-    either-part (verdictOf section.Track s p) (trackOver typeByte s p) r e (λ f. items.place-within section.Track s p r f) (λ f. not-refused r f)
+    either-part (verdictOf section.Track s p) (trackOver typeByte (sectionOf s .list) p) r e (λ f. items.place-within section.Track s p r f) (λ f. over-place typeByte s p r f)
 
 end-place : (p : ℕ) (e : End) (r : Refusal) → endVerdict p e ≡ Refused r → r .place ≡ p
 unfolding endVerdict

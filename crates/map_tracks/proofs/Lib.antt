@@ -1,9 +1,12 @@
 pub mod Anywhere
 pub mod Bits
 pub mod Faults
+pub mod Form
 pub mod Judged
 pub mod Listed
 pub mod Most
+pub mod Numbers
 pub mod Once
 pub mod Places
 pub mod Split
+pub mod WrongForm

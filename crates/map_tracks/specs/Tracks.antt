@@ -1,4 +1,4 @@
--- The track section (RDD 14, 7.1.3; 01, "Map"): taken apart by lengths alone, judged in walk order, and its listed tracks.
+-- The track section (RDD 14, 7.1.3; 01, "Map"; 02, §12): taken apart by lengths alone, judged in walk order, and its listed tracks.
 use Prim.Native.Nat.{ℕ, zero, suc, _+_, _-_, _*_}
 use mathlib.Core.Bool.{Bool}
 use mathlib.Core.List.{List, [], _∷_, _++_}
@@ -7,13 +7,14 @@ use lib.Dec.{ltb, leb, eqb}
 use Rattle.plate.specs.Choice.{pick}
 use Rattle.plate.specs.Ended.{Ended, none, inFront}
 use Rattle.number.specs.Number.{beBytes}
-use Rattle.media_type.specs.MediaType.{knownType}
-use Rattle.map_items.specs.Items.{sectionOf}
+use Rattle.media_type.specs.MediaType.{knownType, wrongForm}
+use Rattle.map_items.specs.Items.{Item, sectionOf}
+use Rattle.map_items.specs.Find.{Found, missing, found, find, partOf}
 use Rattle.map_items.specs.Judge.{bad, andThen, has, verdictOf}
 use Rattle.map_items.specs.declared.Section.the-variants as section
 use Rattle.map_items.specs.declared.Verdict.{Verdict}
 use Rattle.map_items.specs.declared.Verdict.the-variants.{Accepted}
-use Rattle.map_answer.specs.Answer.{trackOf}
+use Rattle.map_answer.specs.Answer.{isNull, trackOf}
 use Rattle.map_answer.specs.declared.Track.{Track}
 use Rattle.map_tracks.specs.declared.Kth.{Kth}
 use Rattle.map_tracks.specs.declared.Kth.the-variants.{Record, Nothing}
@@ -57,13 +58,21 @@ descriptionsBytes (d ∷ ds) = d .typeByte ∷ d .id ∷ (beBytes 2 (length (d .
 abbrev pub onBytes : ℕ → ℕ → ℕ → Verdict → Verdict
 onBytes k i p next = pick (ltb k 0x80) (bad 12 p) (pick (ltb i 0xC0) (bad 12 p) next)
 
--- what a track must meet at its end, once its items have passed: nothing today, a place of its own for what may come
-abbrev pub trackOver : ℕ → List ℕ → ℕ → Verdict
-trackOver typeByte items p = Accepted
+-- 29 at the tag of the wrong form, if it is found; a value begins two bytes behind its tag
+abbrev pub onForm : Found → Verdict
+onForm missing = Accepted
+onForm (found q v) = bad 29 (q - 2)
+
+-- what a track must meet at its end, once its items have passed (02, §12): a listed track without a null name has no auxiliary item of the wrong form
+unfoldable pub trackOver : ℕ → List Item → ℕ → Verdict
+trackOver typeByte is p =
+    pick (knownType (typeByte - 0x80))
+    (pick (isNull (partOf (find 0x4C p is))) Accepted (onForm (find (wrongForm (typeByte - 0x80)) p is)))
+    Accepted
 
 -- a track's items, from place p on, and its end
 unfoldable pub trackVerdict : ℕ → List ℕ → ℕ → Verdict
-trackVerdict typeByte items p = andThen (verdictOf section.Track items p) (trackOver typeByte items p)
+trackVerdict typeByte items p = andThen (verdictOf section.Track items p) (trackOver typeByte (sectionOf items .list) p)
 
 -- the end of a section at place p: 8 for missing bytes, 12, 8 for overhang
 unfoldable pub endVerdict : ℕ → End → Verdict
@@ -71,7 +80,7 @@ endVerdict p over = Accepted
 endVerdict p short = bad 8 p
 endVerdict p (hangs k i) = onBytes k i p (bad 8 p)
 
--- tracks from place p on, after tracks of these IDs: 12, 10 for an ID seen before, listed or not, then the items
+-- tracks from place p on, after tracks of these IDs: 12, 10 for an ID seen before, listed or not, then the items and the track's end
 unfoldable pub judgeTracks : List ℕ → ℕ → List Description → End → Verdict
 judgeTracks ids p [] e = endVerdict p e
 judgeTracks ids p (d ∷ ds) e =

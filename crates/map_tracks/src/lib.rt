@@ -1,6 +1,7 @@
 // The track section of a map: its verdict in walk order, the number of its listed tracks, their records, and their types by ID.
 // It serves the map reader, which hands it a part of a packet; what asks for bounds here is met there for every input.
 use map_answer::Track;
+use map_items::Part;
 use map_items::Section;
 use map_items::Verdict;
 ghost use mathlib.Core.Path.{_≡_};
@@ -9,8 +10,11 @@ ghost use Prim.Native.Nat.{_+_, _-_, _<_, _≤_, _^_};
 ghost use lib.ListN.{length, set, replicate};
 ghost use Rattle.plate.specs.Choice.{pick};
 ghost use Rattle.media_type.specs.MediaType.{knownType};
+ghost use Rattle.map_items.specs.Items.{sectionOf};
+ghost use Rattle.map_items.specs.Find.{find, partOf};
+ghost use Rattle.map_answer.specs.Answer.{isNull};
 ghost use Rattle.map_tracks.specs.Inside.{holds, Empty, Adds, keyOf, keyedOf};
-ghost use Rattle.map_tracks.specs.Tracks.{trackVerdict, tracksOf, tracksVerdict, listed, kthOf, idOf, typesOf};
+ghost use Rattle.map_tracks.specs.Tracks.{trackOver, trackVerdict, tracksOf, tracksVerdict, listed, kthOf, idOf, typesOf};
 
 // The track IDs seen so far: bit k, worth 2^k, is ID k.
 pub struct Seen {
@@ -82,12 +86,45 @@ fn with_type(table: Types, type_byte: u8, id: u8) -> Types
     table
 }
 
+// Whether a track has a null name; without any name it has none.
+fn has_null_name(s: &[u8], base: usize) -> bool
+    requires { ⌜ base + length (now s) < 2 ^ 64 ⌝ }
+    ensures { λ r. ⌜ r ≡ isNull (partOf (find 0x4C base (sectionOf (now (s .entry)) .list))) ⌝ }
+{
+    map_answer::is_null(map_items::found(s, base, 0x4C))
+}
+
+// The verdict on the end of a track whose items have passed: 29 for the wrong auxiliary form. The name is sought only where that form is there.
+fn judge_end(type_byte: u8, s: &[u8], base: usize) -> Verdict
+    requires { ⌜ (base + length (now s) < 2 ^ 64) × (sectionOf (now s) .end ≡ true) ⌝ }
+    ensures { λ r. ⌜ r ≡ trackOver «type_byte» (sectionOf (now (s .entry)) .list) base ⌝ }
+{
+    let media_type = map_answer::bare(type_byte, 0x80);
+    if media_type::is_known(media_type) {
+        match map_items::found_in_whole(s, base, media_type::wrong_form(media_type)) {
+            Part::At(value, _) => {
+                if has_null_name(s, base) {
+                    return Verdict::Accepted;
+                }
+                return map_items::refused(plate::WRONG_FORM, value - 2); // its tag
+            }
+            Part::Absent => {
+                return Verdict::Accepted;
+            }
+        }
+    }
+    Verdict::Accepted
+}
+
 // The verdict on a track's items, from place base of the packet on, and on its end.
 fn judge_track(type_byte: u8, s: &[u8], base: usize) -> Verdict
     requires { ⌜ base + length (now s) < 2 ^ 64 ⌝ }
     ensures { λ r. ⌜ r ≡ trackVerdict «type_byte» (now (s .entry)) base ⌝ }
 {
-    map_items::judge(Section::Track, s, base)
+    match map_items::judge(Section::Track, s, base) {
+        Verdict::Refused(r) => Verdict::Refused(r),
+        Verdict::Accepted => judge_end(type_byte, s, base),
+    }
 }
 
 // The first fault of a track section that begins at place base of its packet.
