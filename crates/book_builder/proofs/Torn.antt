@@ -25,7 +25,7 @@ use Rattle.book_builder.proofs.Laws.{build-refused}
 
 abbrev OfBuild : BuildAnswer → Type 0
 OfBuild (build.Records n) = Unit {0}
-OfBuild (build.Refused r) = Among 1 22 r
+OfBuild (build.Refused r) = Among 1 29 r
 
 build-numbers : (l s : List ℕ) → OfBuild (buildAnswer l s)
 unfolding buildAnswer

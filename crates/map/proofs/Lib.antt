@@ -8,3 +8,4 @@ pub mod Parts
 pub mod ViewOfParts
 pub mod Samples
 pub mod Within
+pub mod WrongForm

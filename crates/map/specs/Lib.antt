@@ -3,3 +3,4 @@ pub mod Inside
 pub mod Map
 pub mod Parts
 pub mod View
+pub mod WrongForm

@@ -16,9 +16,8 @@ use Rattle.map_items.specs.declared.Verdict.{Verdict}
 use Rattle.map_items.specs.declared.Verdict.the-variants as verdict
 use Rattle.map_items.specs.declared.Part.{Part}
 use Rattle.map_items.specs.declared.Part.the-variants as part
-use Rattle.map_items.proofs.Numbers.{Own}
 use Rattle.map.specs.Map.{mapVerdict}
-use Rattle.map.proofs.Numbers.{verdict-numbers}
+use Rattle.map.proofs.Numbers.{verdict-refused}
 use Rattle.map_name.specs.Name.{ifAccepted, ifWhole, openedOf, nameIn, orNotThere, inOpened, nameAt, orElse, inTwo, nameOfTwoAt}
 use Rattle.map_name.specs.declared.Opened.{Opened}
 use Rattle.map_name.specs.declared.Opened.the-variants as opened
@@ -32,11 +31,11 @@ opened-passes s r e = rw (type-passes s 0 0xBC r e)
 
 pub opened-passed : (s : List ℕ) (r : Refusal) → openedOf s ≡ opened.Refused r → PassedOn s 0 r
 unfolding openedOf
-opened-passed s r = passed-by (ifWhole s) (opened.Refused r) s 0 0xBC r (omega arith) (λ q e. cc) (λ w e. own (w .len) (mapVerdict (take (w .len) s)) (verdict-numbers (take (w .len) s)) e)
+opened-passed s r = passed-by (ifWhole s) (opened.Refused r) s 0 0xBC r (omega arith) (λ q e. cc) (λ w e. own (w .len) (take (w .len) s) (mapVerdict (take (w .len) s)) refl e)
   where
-    own : (n : ℕ) (v : Verdict) → Own v → ifAccepted n v ≡ opened.Refused r → Among 7 12 r
-    own n verdict.Accepted h e = absurd (let z : _≡_ {A = ℕ} 0 1 = cc in omega arith)
-    own n (verdict.Refused q) h e = let z : q ≡ r = cc in subst (Among 7 12) z h
+    own : (n : ℕ) (p : List ℕ) (v : Verdict) → mapVerdict p ≡ v → ifAccepted n v ≡ opened.Refused r → Among 7 29 r
+    own n p verdict.Accepted h e = absurd (let z : _≡_ {A = ℕ} 0 1 = cc in omega arith)
+    own n p (verdict.Refused q) h e = let z : q ≡ r = cc in subst (Among 7 29) z (verdict-refused p q h)
 
 -- 16 is no 5, and no bytes lack with it
 not-there : (s : List ℕ) (r : Refusal) → refusal 16 0 ≡ r → PassedOn s 0 r

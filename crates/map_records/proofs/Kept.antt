@@ -27,7 +27,7 @@ use Rattle.map.specs.declared.TrackAnswer.the-variants as track
 use Rattle.map_records.specs.Fill.{recordsFrom, recordsAt, withRoom, answerFor, lentAfter, Filled}
 use Rattle.map_records.specs.Inside.{blank}
 use Rattle.map_records.proofs.Laws.{counted}
-use Rattle.map.proofs.Numbers.{map-refused}
+use Rattle.map.proofs.Numbers.{never-13}
 
 -- a refused call leaves every record
 pub refused-stays : (ys : List Track) (s : List ℕ) (at : ℕ) (r : Refusal) (zs : List Track) → Filled ys s at (map.Refused r) zs → zs ≡ ys
@@ -131,5 +131,5 @@ thirteen s at room r e n = go (mapAt s at) refl e
     roomy m q false t f = absurd (let z : _≡_ {A = ℕ} 0 1 = cc in omega arith)
 
     go : (a : MapAnswer) → mapAt s at ≡ a → withRoom room a ≡ map.Refused r → Short s at room
-    go (map.Refused t) q f = absurd (let k : t .number ≡ r .number = cc in omega (arith, map-refused s at t q .1))
+    go (map.Refused t) q f = let k : t .number ≡ r .number = cc in absurd (never-13 s at t q (k ∙ n))
     go (map.Says m) q f = roomy m q (ltb room (m .count)) refl f

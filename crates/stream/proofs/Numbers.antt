@@ -1,4 +1,4 @@
--- Which numbers the refusal of a check can have, and that of a seek: 1 to 22; bytes lack with 5 alone.
+-- Which numbers the refusal of a check can have, and that of a seek: 1 to 29; bytes lack with 5 alone.
 use Prim.Native.Nat.{ℕ, zero, suc, _+_}
 use mathlib.Core.Path.{refl}
 use mathlib.Core.Bool.{Bool, true, false}
@@ -28,7 +28,7 @@ use Rattle.stream.specs.declared.SeekAnswer.the-variants as seek
 abbrev OfEnd : End → Type 0
 OfEnd closed = Unit {0}
 OfEnd runsOut = Unit {0}
-OfEnd (stops r) = Among 1 17 r
+OfEnd (stops r) = Among 1 29 r
 
 abbrev Ends : Packets → Type 0
 Ends ps = OfEnd (ps .end)
@@ -39,14 +39,14 @@ packets-numbers s zero first types at = tt
 packets-numbers s (suc f) first types at =
     either Ends (ltb at (length s)) (go (λ now-types next. packetsFrom s f false now-types next) (λ now-types next. packets-numbers s f false now-types next) (pieceAt s at first) (piece-numbers s at first)) tt
   where
-    go : (next : List ℕ → ℕ → Packets) → ((ts : List ℕ) (o : ℕ) → Ends (next ts o)) → (a : PieceAnswer) → OfPiece 1 17 a → Ends (onPiece s at types next a)
+    go : (next : List ℕ → ℕ → Packets) → ((ts : List ℕ) (o : ℕ) → Ends (next ts o)) → (a : PieceAnswer) → OfPiece 1 29 a → Ends (onPiece s at types next a)
     go next k (piece.Refused r) h = h
     go next k (piece.Whole x) h = either Ends (eqb (x .«packet_type») 0xFB) tt (k (typesAfter s at x types) (at + x .len))
 
 -- ---- the check
 abbrev pub OfCheck : CheckAnswer → Type 0
 OfCheck (check.Packets n) = Unit {0}
-OfCheck (check.Refused r) = Among 1 22 r
+OfCheck (check.Refused r) = Among 1 29 r
 
 pub out-numbers : (count n : ℕ) → Among 17 18 (ranOut count n)
 unfolding ranOut
@@ -54,16 +54,16 @@ out-numbers count n = either (Among 17 18) (eqb count 0) (omega arith, omega ari
 
 judge-numbers : (n : ℕ) (xs : List Placed) (e : End) → OfEnd e → (p : Progress) → OfCheck (judgePackets n p xs e)
 unfolding judgePackets
-judge-numbers n [] closed h p = wider 1 22 (ranOut (p .count) n) (omega arith) (omega arith) (out-numbers (p .count) n)
-judge-numbers n [] runsOut h p = wider 1 22 (ranOut (p .count) n) (omega arith) (omega arith) (out-numbers (p .count) n)
-judge-numbers n [] (stops r) h p = wider 1 22 r (omega arith) (omega arith) h
+judge-numbers n [] closed h p = wider 1 29 (ranOut (p .count) n) (omega arith) (omega arith) (out-numbers (p .count) n)
+judge-numbers n [] runsOut h p = wider 1 29 (ranOut (p .count) n) (omega arith) (omega arith) (out-numbers (p .count) n)
+judge-numbers n [] (stops r) h p = wider 1 29 r (omega arith) (omega arith) h
 judge-numbers n (x ∷ xs) e h p =
     go (λ q. judgePackets n q xs e) (judge-numbers n xs e h) (stepAt n p x) (step-numbers p (x .piece) (x .at) (getD (x .types) (x .piece .track) 0) (ltb (x .at + x .piece .len) n))
   where
     go : (next : Progress → CheckAnswer) → ((q : Progress) → OfCheck (next q)) → (a : Step) → OfStep a → OfCheck (onStep next a)
     go next k (step.Next q) i = k q
     go next k (step.Ended m) i = tt
-    go next k (step.Refused r) i = wider 1 22 r (omega arith) (omega arith) i
+    go next k (step.Refused r) i = wider 1 29 r (omega arith) (omega arith) i
 
 pub check-numbers : (s : List ℕ) → OfCheck (checkOf s)
 unfolding checkOf packets
@@ -74,7 +74,7 @@ check-numbers s =
 -- ---- seek
 abbrev pub OfSeek : SeekAnswer → Type 0
 OfSeek (seek.At o) = Unit {0}
-OfSeek (seek.Refused r) = Among 1 22 r
+OfSeek (seek.Refused r) = Among 1 29 r
 
 pub seek-numbers : (s : List ℕ) (track field : ℕ) → OfSeek (seekOf s track field)
 unfolding seekOf

@@ -2,3 +2,4 @@ pub mod Inside
 pub mod Lacking
 pub mod Sought
 pub mod Stream
+pub mod WrongForm
