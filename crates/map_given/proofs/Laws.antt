@@ -11,11 +11,12 @@ use lib.Seq.{drop-cons}
 use lib.Dec.{ltb, leb, eqb}
 use Rattle.plate.specs.Choice.{pick}
 use Rattle.text.specs.Text.{textOk}
+use Rattle.media_type.specs.MediaType.{mpegType, wrongForm}
 use Rattle.map_items.specs.Judge.{has}
 use Rattle.map_answer.specs.Answer.{allowed}
 use Rattle.map_given.specs.declared.Slot.{Slot}
 use Rattle.map_given.specs.Given.{slotAt, slots, trackAt, tracksFrom}
-use Rattle.map_given.specs.Faults.{isText, fits, slotFault, graver, slotsFault, given, nullName, ownFault, tracksFault}
+use Rattle.map_given.specs.Faults.{isText, fits, slotFault, graver, slotsFault, given, nullName, ownFault, tracksFault, givenWrong, anyWrong}
 
 -- a part lies in a text
 pub part-inside : (a b n : ℕ) → a ≤ n → leb b (n - a) ≡ leb (a + b) n
@@ -155,6 +156,29 @@ module _ (ts : List ℕ) (at : ℕ) where
   pub names-null : nullName (trackAt ts at .slots) ≡ pick (eqb (getD ts (at + 2) 0) 1) (eqb (getD ts (at + 2 + 2) 0) 0) false
   unfolding nullName slots
   names-null = refl
+
+  -- the wrong form, by the type
+  pub wrong-of-mpeg : mpegType (getD ts at 0) ≡ true → eqb (getD ts (at + 5) 0) 1 ≡ givenWrong (trackAt ts at)
+  unfolding givenWrong wrongForm
+  wrong-of-mpeg e = sym (rw e gives-4D)
+
+  pub wrong-of-other : mpegType (getD ts at 0) ≡ false → eqb (getD ts (at + 11) 0) 1 ≡ givenWrong (trackAt ts at)
+  unfolding givenWrong wrongForm
+  wrong-of-other e = sym (rw e gives-4F)
+
+-- whether any track is given one, a track at a time
+module _ (ts : List ℕ) where
+  pub any-wrong-here : (n at : ℕ) → 0 < n → givenWrong (trackAt ts at) ≡ true → anyWrong (tracksFrom n ts at) ≡ true
+  unfolding anyWrong
+  any-wrong-here n at h e = rw (tracks-more n ts at h, e)
+
+  pub any-wrong-later : (n at : ℕ) → 0 < n → givenWrong (trackAt ts at) ≡ false → anyWrong (tracksFrom n ts at) ≡ anyWrong (tracksFrom (n - 1) ts (at + 23))
+  unfolding anyWrong
+  any-wrong-later n at h e = rw (tracks-more n ts at h, e)
+
+  pub any-wrong-out : (n at : ℕ) → n ≤ 0 → anyWrong (tracksFrom n ts at) ≡ false
+  unfolding anyWrong
+  any-wrong-out n at h = rw (no-tracks n ts at h)
 
 -- the IDs, kept as flags
 abbrev pub Keeps : List Bool → List ℕ → Type 0

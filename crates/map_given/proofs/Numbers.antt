@@ -1,4 +1,4 @@
--- The fault of an input is 24, 11, 10, or 0 for none.
+-- The fault of an input, 29 aside, is 24, 11, 10, or 0 for none.
 use Prim.Native.Nat.{ℕ, _%_}
 use mathlib.Core.Path.{_≡_, refl, sym}
 use mathlib.Core.Bool.{Bool, true, false}
@@ -72,12 +72,12 @@ fault-named text ms ts =
     (named .1))
     (named .1)
 
--- a fault that is not 0 is one of the writer's refusals; and none is the room's
-pub fault-among : (f : ℕ) → eqb f 0 ≡ false → Named f → has f (24 ∷ 11 ∷ 10 ∷ 13 ∷ []) ≡ true
+-- a fault that is not 0 is one of the writer's refusals; and none is the room's or the form's
+pub fault-among : (f : ℕ) → eqb f 0 ≡ false → Named f → has f (24 ∷ 11 ∷ 10 ∷ 29 ∷ 13 ∷ []) ≡ true
 unfolding has
 fault-among f e = rw e (go (eqb f 24) (eqb f 11) (eqb f 10))
   where
-    go : (a b c : Bool) → pick a true (pick b true (pick c true false)) ≡ true → pick a true (pick b true (pick c true (pick (eqb f 13) true false))) ≡ true
+    go : (a b c : Bool) → pick a true (pick b true (pick c true false)) ≡ true → pick a true (pick b true (pick c true (pick (eqb f 29) true (pick (eqb f 13) true false)))) ≡ true
     go true b c h = refl
     go false true c h = refl
     go false false true h = refl
@@ -86,3 +86,7 @@ fault-among f e = rw e (go (eqb f 24) (eqb f 11) (eqb f 10))
 pub not-13 : (f : ℕ) → Named f → f ≡ 13 → ⊥
 unfolding has
 not-13 f n e = never (sym (rw e at n))
+
+pub not-29 : (f : ℕ) → Named f → f ≡ 29 → ⊥
+unfolding has
+not-29 f n e = never (sym (rw e at n))

@@ -7,6 +7,8 @@ use Rattle.map_given.proofs.is_text.Kinds as is-text-kinds
 use Rattle.map_given.proofs.is_text.Reads as is-text-reads
 use Rattle.map_given.proofs.fault.Kinds as fault-kinds
 use Rattle.map_given.proofs.fault.Reads as fault-reads
+use Rattle.map_given.proofs.any_wrong.Kinds as any-wrong-kinds
+use Rattle.map_given.proofs.any_wrong.Reads as any-wrong-reads
 
 pub slot-at-once : OneAnswer 1 slot-at-kinds.ps slot-at-kinds.r slot-at-reads.Post
 slot-at-once κs a x y s t p q = p ∙ sym q
@@ -16,3 +18,6 @@ is-text-once κs a x y s t p q = p ∙ sym q
 
 pub fault-once : OneAnswer 3 fault-kinds.ps fault-kinds.r fault-reads.Post
 fault-once κs a x y s t p q = p ∙ sym q
+
+pub any-wrong-once : OneAnswer 1 any-wrong-kinds.ps any-wrong-kinds.r any-wrong-reads.Post
+any-wrong-once κs a x y s t p q = p ∙ sym q

@@ -1,4 +1,4 @@
--- What the map writer refuses of what it is given (RDD 14, clause 7.1, Tables 3 to 6; 01, "Writers"): 24, then 11, then 10.
+-- What the map writer refuses of what it is given (RDD 14, clause 7.1, Tables 3 to 6; 01, "Writers"; 02, §12): 24, then 11, then 10, then 29.
 use Prim.Native.Nat.{ℕ, _+_, _%_}
 use mathlib.Core.List.{List, [], _∷_, _++_}
 use mathlib.Core.Bool.{Bool, true, false}
@@ -6,7 +6,7 @@ use lib.ListN.{length, take, drop}
 use lib.Dec.{ltb, leb, eqb}
 use Rattle.plate.specs.Choice.{pick}
 use Rattle.text.specs.Text.{textOk}
-use Rattle.media_type.specs.MediaType.{knownType}
+use Rattle.media_type.specs.MediaType.{knownType, wrongForm}
 use Rattle.map_items.specs.Judge.{has}
 use Rattle.map_answer.specs.Answer.{allowed}
 use Rattle.map_given.specs.Given.{materialSlots, Given, tracksGiven}
@@ -89,7 +89,7 @@ unfoldable pub idsFault : List ℕ → List Given → ℕ
 idsFault ids [] = 0
 idsFault ids (t ∷ ts) = graver (idFault ids (t .id)) (idsFault (t .id ∷ ids) ts)
 
--- the fault of the whole input: 24 for words that are not one record of the material, or not whole records of tracks; else the gravest of slots, tracks and IDs
+-- the fault of the whole input but for 29: 24 for words that are not one record of the material, or not whole records of tracks; else the gravest of slots, tracks and IDs
 unfoldable pub faultOf : List ℕ → List ℕ → List ℕ → ℕ
 faultOf text ms ts =
     pick (eqb (length ms) 18)
@@ -97,3 +97,12 @@ faultOf text ms ts =
     (graver (graver (slotsFault text (materialSlots ms)) (tracksFault text (tracksGiven ts))) (idsFault [] (tracksGiven ts)))
     24)
     24
+
+-- a track that is given the wrong form; beside a null name either form is 24 already
+unfoldable pub givenWrong : Given → Bool
+givenWrong t = given (wrongForm (t .mediaType)) (t .slots)
+
+-- whether any track is: 29, where there is no 24, 11 or 10 (docs/DECISIONS.md, S13)
+unfoldable pub anyWrong : List Given → Bool
+anyWrong [] = false
+anyWrong (t ∷ ts) = pick (givenWrong t) true (anyWrong ts)

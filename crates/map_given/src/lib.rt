@@ -9,7 +9,8 @@ ghost use lib.ListN.{length, getD, replicate};
 ghost use Rattle.text.specs.Text.{textOk};
 ghost use Rattle.map_given.specs.Given.{slotAt, slots, trackAt, tracksGiven};
 ghost use Rattle.map_given.specs.Places.{materialPlaces, trackPlaces};
-ghost use Rattle.map_given.specs.Faults.{isText, codeFits, fits, barred, slotFault, graver, slotsFault, ownFault, tracksFault, idsFault, faultOf};
+ghost use Rattle.map_given.specs.Faults.{isText, codeFits, fits, barred, slotFault, graver, slotsFault, ownFault, tracksFault, idsFault, faultOf, givenWrong, anyWrong};
+ghost use Rattle.media_type.specs.MediaType.{mpegType};
 ghost use Rattle.map_given.specs.Inside.{flagFault, flagged};
 
 // A record's slot has three words: its mark, 1 for present and 0 for absent, and two more, which are not looked at where it is absent.
@@ -364,7 +365,7 @@ fn ids_fault(ts: &[u64]) -> u8
     worst
 }
 
-// The fault of the whole input: 24, then 11, then 10; 0 for none.
+// The fault of the whole input but for 29: 24, then 11, then 10; 0 for none.
 pub fn fault(text: &[u8], material: &[u64], tracks: &[u64]) -> u8
     ensures { λ r. ⌜ r ≡ faultOf (now (text .entry)) (now (material .entry)) (now (tracks .entry)) ⌝ }
 {
@@ -379,4 +380,41 @@ pub fn fault(text: &[u8], material: &[u64], tracks: &[u64]) -> u8
         tracks_fault(text, tracks),
     );
     graver_of(inner, ids_fault(tracks))
+}
+
+// Whether a media type of 64 bits is MPEG video.
+fn is_mpeg(media_type: u64) -> bool
+    ensures { λ r. ⌜ r ≡ mpegType «media_type» ⌝ }
+{
+    if 255 < media_type {
+        return false;
+    }
+    media_type::is_mpeg(media_type as u8)
+}
+
+// Whether a track's record has the wrong auxiliary form: 4D for MPEG video, 4F for another type.
+fn is_wrong(ts: &[u64], at: usize) -> bool
+    requires { ⌜ at + 23 ≤ length (now ts) ⌝ }
+    ensures { λ r. ⌜ r ≡ givenWrong (trackAt (now (ts .entry)) at) ⌝ }
+{
+    if is_mpeg(ts[at]) {
+        return is_given(ts, at + AUXILIARY);
+    }
+    is_given(ts, at + MPEG)
+}
+
+// Whether any track is given the wrong auxiliary form: 29, where `fault` finds nothing.
+pub fn any_wrong(tracks: &[u64]) -> bool
+    ensures { λ r. ⌜ r ≡ anyWrong (tracksGiven (now (tracks .entry))) ⌝ }
+{
+    let mut at: usize = 0;
+    let mut left = tracks.len() / TRACK_WORDS;
+    while 0 < left {
+        if is_wrong(tracks, at) {
+            return true;
+        }
+        at += TRACK_WORDS;
+        left -= 1;
+    }
+    false
 }

@@ -1,9 +1,10 @@
 -- The lists of a written map are what the reader asks: its judges accept them.
-use Prim.Native.Nat.{ℕ, zero, suc, _+_, _/_, _<_, _≤_}
+use Prim.Native.Nat.{ℕ, zero, suc, _+_, _-_, _/_, _<_, _≤_}
 use mathlib.Core.Path.{_≡_, refl, sym, _∙_}
 use mathlib.Core.Bool.{Bool, true, false}
 use mathlib.Core.List.{List, [], _∷_, _++_, map}
 use native.Mathlib.Omega.{arith}
+use native.Mathlib.Nat.{add-sub-cancel-left}
 use borrow.Author.Tests.{eq-eqb, ne-eqb, eqb-true, eqb-false}
 use lib.ListN.{length, getD, take, drop, length-drop}
 use lib.Seq.{length-take-le}
@@ -18,15 +19,19 @@ use Rattle.map_items.specs.declared.Form.the-variants.{Text, Sized}
 use Rattle.map_items.specs.declared.Section.{Section}
 use Rattle.map_items.specs.declared.Section.the-variants as section
 use Rattle.map_items.specs.declared.Verdict.the-variants.{Accepted}
-use Rattle.map_items.proofs.Anywhere.{verdict-bytes}
-use Rattle.map_tracks.specs.Tracks.{Description, over, trackVerdict, endVerdict, judgeTracks}
+use Rattle.media_type.specs.MediaType.{wrongForm}
+use Rattle.map_items.proofs.Anywhere.{never, verdict-bytes}
+use Rattle.map_items.proofs.Split.{section-bytes}
+use Rattle.map_tracks.proofs.Form.{on-absent}
+use Rattle.map_tracks.specs.Tracks.{Description, over, trackOver, trackVerdict, endVerdict, judgeTracks}
 use Rattle.map_tracks.proofs.Anywhere.{Passed, pass}
 use Rattle.map.specs.Encode.{TrackParts, described}
 use Rattle.map.specs.Inside.{Good}
 use Rattle.map_given.specs.declared.Slot.{Slot}
-use Rattle.map_given.specs.Given.{slotAt, slots, materialSlots, trackAt, tracksFrom}
-use Rattle.map_given.specs.Faults.{isText, isEight, slotFault, slotsFault, given, ownFault, tracksFault, idFault, idsFault}
+use Rattle.map_given.specs.Given.{slotAt, slots, materialSlots, Given, trackAt, tracksFrom, tracksGiven}
+use Rattle.map_given.specs.Faults.{isText, isEight, slotFault, slotsFault, given, ownFault, tracksFault, idFault, idsFault, givenWrong, anyWrong}
 use Rattle.map_writer.specs.Write.{slotValue, itemsOf, partsOfTrack, partsGiven}
+use Rattle.map_writer.proofs.ViewGiven.{not-given-missing}
 use Rattle.map_given.proofs.Laws.{none-graver}
 use Rattle.map_given.proofs.Clean.{present-fits, eight-fits, tracks-clean, Clean, reads-text, not-both, id-fresh}
 
@@ -166,7 +171,7 @@ none-below : (t : ℕ) → Below t []
 unfolding has
 none-below t x h = refl
 
-none-same : (x : ℕ) → has (0xC0 + x) [] ≡ has x []
+pub none-same : (x : ℕ) → has (0xC0 + x) [] ≡ has x []
 unfolding has
 none-same x = refl
 
@@ -189,11 +194,11 @@ no-track ids p = refl
 
 -- a track that passes
 made : (ids : List ℕ) (p : ℕ) (t : TrackParts) (ds : List Description) → 0x80 ≤ t .typeByte → 0xC0 ≤ t .id → has (t .id) ids ≡ false
-    → judgeItems section.Track [] (p + 4) (t .items) ≡ Accepted
+    → judgeItems section.Track [] (p + 4) (t .items) ≡ Accepted → trackOver (t .typeByte) (t .items) (p + 4) ≡ Accepted
     → judgeTracks (t .id ∷ ids) (p + 4 + length (described t .items)) ds over ≡ Accepted
     → Passed ids p (described t) ds over
 unfolding described trackVerdict
-made ids p t ds k i f g r = record { typeByte = k; id = i; fresh = f; items = rw (verdict-bytes section.Track (t .items) (p + 4), g); rest = r }
+made ids p t ds k i f g o r = record { typeByte = k; id = i; fresh = f; items = rw (verdict-bytes section.Track (t .items) (p + 4), g, section-bytes (t .items)) o; rest = r }
 
 -- the slots of the material, and of a track
 pub material-good : (text ms : List ℕ) (p : ℕ) → slotsFault text (materialSlots ms) ≡ 0 → judgeItems section.Material [] p (itemsOf text (materialSlots ms)) ≡ Accepted
@@ -201,16 +206,33 @@ material-good text ms p h =
     judge-slots text ms section.Material 6 0 0x40 p [] (material-known ms) h (none-below 0x40)
     (λ e. absurd (let z : false ≡ true = sym (no-4F ms) ∙ e in let y : _≡_ {A = ℕ} 0 1 = cc in omega arith))
 
-track-good : (text ts : List ℕ) (at p : ℕ) → ownFault (trackAt ts at) ≡ 0 → slotsFault text (trackAt ts at .slots) ≡ 0
+pub track-good : (text ts : List ℕ) (at p : ℕ) → ownFault (trackAt ts at) ≡ 0 → slotsFault text (trackAt ts at .slots) ≡ 0
     → judgeItems section.Track [] p (itemsOf text (trackAt ts at .slots)) ≡ Accepted
 track-good text ts at p o h =
     judge-slots text ts section.Track 7 (at + 2) 0x4C p [] (track-known ts at) h (none-below 0x4C) (λ e. (none-below 0 0x4D (omega arith), not-both (trackAt ts at) o e))
 
+-- a track that is not given the wrong form passes at its end
+pub form-good : (text ts : List ℕ) (at p : ℕ) → givenWrong (trackAt ts at) ≡ false → trackOver (0x80 + trackAt ts at .mediaType) (itemsOf text (trackAt ts at .slots)) p ≡ Accepted
+unfolding givenWrong
+form-good text ts at p h =
+    let mediaType = getD ts at 0 in
+    let e : 0x80 + mediaType - 0x80 ≡ mediaType = add-sub-cancel-left 0x80 mediaType in
+    let m = not-given-missing text ts 7 (at + 2) 0x4C (wrongForm mediaType) p h in
+    sym (on-absent (0x80 + mediaType) (itemsOf text (trackAt ts at .slots)) p (rw (e, m)))
+
+none-wrong : (t : Given) (ts : List Given) → anyWrong (t ∷ ts) ≡ false → (givenWrong t ≡ false) × (anyWrong ts ≡ false)
+unfolding anyWrong
+none-wrong t ts = go (givenWrong t)
+  where
+    go : (b : Bool) → pick b true (anyWrong ts) ≡ false → (b ≡ false) × (anyWrong ts ≡ false)
+    go true e = never e
+    go false e = (refl, e)
+
 -- the IDs as their bytes
-abbrev Same : List ℕ → List ℕ → Type 0
+abbrev pub Same : List ℕ → List ℕ → Type 0
 Same ids marked = (x : ℕ) → has (0xC0 + x) marked ≡ has x ids
 
-same-more : (ids marked : List ℕ) (id : ℕ) → Same ids marked → Same (id ∷ ids) ((0xC0 + id) ∷ marked)
+pub same-more : (ids marked : List ℕ) (id : ℕ) → Same ids marked → Same (id ∷ ids) ((0xC0 + id) ∷ marked)
 unfolding has
 same-more ids marked id f x = go (eqb x id) refl
   where
@@ -220,17 +242,18 @@ same-more ids marked id f x = go (eqb x id) refl
 
 module _ (text ts : List ℕ) where
   judge-tracks : (n at p : ℕ) (ids marked : List ℕ) → Same ids marked → tracksFault text (tracksFrom n ts at) ≡ 0 → idsFault ids (tracksFrom n ts at) ≡ 0
-      → judgeTracks marked p (map described (map (partsOfTrack text) (tracksFrom n ts at))) over ≡ Accepted
+      → anyWrong (tracksFrom n ts at) ≡ false → judgeTracks marked p (map described (map (partsOfTrack text) (tracksFrom n ts at))) over ≡ Accepted
   unfolding tracksFrom idsFault
-  judge-tracks zero at p ids marked f h k = no-track marked p
-  judge-tracks (suc n) at p ids marked f h k =
+  judge-tracks zero at p ids marked f h k w = no-track marked p
+  judge-tracks (suc n) at p ids marked f h k w =
       let t = trackAt ts at in
       let c = tracks-clean text t (tracksFrom n ts (at + 23)) h in
+      let g = none-wrong t (tracksFrom n ts (at + 23)) w in
       let i = none-graver (idFault ids (t .id)) (idsFault (t .id ∷ ids) (tracksFrom n ts (at + 23))) k in
       pass marked p (described (partsOfTrack text t)) (map described (map (partsOfTrack text) (tracksFrom n ts (at + 23)))) over
-      (made marked p (partsOfTrack text t) (map described (map (partsOfTrack text) (tracksFrom n ts (at + 23)))) (omega arith) (omega arith) (f (t .id) ∙ id-fresh ids (t .id) (i .0)) (track-good text ts at (p + 4) (c .0) (c .1))
-      (judge-tracks n (at + 23) (p + 4 + length (described (partsOfTrack text t) .items)) (t .id ∷ ids) ((0xC0 + t .id) ∷ marked) (same-more ids marked (t .id) f) (c .2) (i .1)))
+      (made marked p (partsOfTrack text t) (map described (map (partsOfTrack text) (tracksFrom n ts (at + 23)))) (omega arith) (omega arith) (f (t .id) ∙ id-fresh ids (t .id) (i .0)) (track-good text ts at (p + 4) (c .0) (c .1)) (form-good text ts at (p + 4) (g .0))
+      (judge-tracks n (at + 23) (p + 4 + length (described (partsOfTrack text t) .items)) (t .id ∷ ids) ((0xC0 + t .id) ∷ marked) (same-more ids marked (t .id) f) (c .2) (i .1) (g .1)))
 
-pub parts-good : (text ms ts : List ℕ) → Clean text ms ts → Good (partsGiven text ms ts)
+pub parts-good : (text ms ts : List ℕ) → Clean text ms ts → anyWrong (tracksGiven ts) ≡ false → Good (partsGiven text ms ts)
 unfolding partsGiven
-parts-good text ms ts c = (material-good text ms 0 (c .material), judge-tracks text ts (length ts / 23) 0 0 [] [] (λ x. none-same x) (c .tracks) (c .ids))
+parts-good text ms ts c w = (material-good text ms 0 (c .material), judge-tracks text ts (length ts / 23) 0 0 [] [] (λ x. none-same x) (c .tracks) (c .ids) w)

@@ -4,7 +4,7 @@ use mathlib.Core.Path.{_≡_, refl, _∙_, ap}
 use mathlib.Core.Bool.{Bool, true, false}
 use mathlib.Core.List.{List, [], _∷_, map}
 use native.Mathlib.Omega.{arith}
-use borrow.Author.Tests.{lt-ltb, eqb-true, eqb-false}
+use borrow.Author.Tests.{lt-ltb, eqb-true}
 use lib.ListN.{length, length-map}
 use lib.Dec.{ltb, eqb}
 use Rattle.plate.specs.Choice.{pick}
@@ -16,14 +16,14 @@ use Rattle.map.proofs.Encoded.{padding-under}
 use Rattle.packet_writer.specs.Write.{refused}
 use Rattle.packet_writer.specs.declared.WriteAnswer.the-variants.{Length, Refused}
 use Rattle.map_given.specs.Given.{materialSlots, tracksFrom, tracksGiven}
-use Rattle.map_given.specs.Faults.{faultOf}
+use Rattle.map_given.specs.Faults.{faultOf, anyWrong}
 use Rattle.map_given.proofs.Clean.{Clean, clean, most-64}
 use Rattle.map_given.proofs.Numbers.{fault-named, fault-among, not-13}
 use Rattle.map_writer.specs.Inside.{slotsSize, tracksSize, tracksBytes}
 use Rattle.map_writer.specs.Write.{partsOfTrack, partsGiven, mapPacket, mapAnswer}
 use Rattle.map_writer.specs.Largest.{trackLength, Each, Sizes, largestText, largestMaterial, largestTracks, Largest}
-use Rattle.map_writer.proofs.Packet.{material-size, tracks-size, packet-size, faulty}
-use Rattle.map_writer.proofs.Worked.{largest-sound, largest-material, largest-tracks}
+use Rattle.map_writer.proofs.Packet.{material-size, tracks-size, packet-size}
+use Rattle.map_writer.proofs.Worked.{largest-sound, largest-form, largest-material, largest-tracks}
 use Rattle.map_writer.proofs.RoundTrip.{answered, accepted}
 use Rattle.map_writer.proofs.Bounds.{material-most, tracks-most, section-most}
 
@@ -71,34 +71,43 @@ module _ (out : List ℕ) (at : ℕ) (text ms ts : List ℕ) where
   lengths : (n : ℕ) → mapAnswer out at text ms ts ≡ Length n → n ≤ 35000
   lengths n e = let a = answered out at text ms ts n e in omega (arith, a .lens, most text ms ts (clean text ms ts (a .none)) .packet)
 
-  written : at + 35000 ≤ length out → faultOf text ms ts ≡ 0 → mapAnswer out at text ms ts ≡ Length (length (mapPacket text ms ts))
-  written h f = accepted out at text ms ts 0 f (omega (arith, most text ms ts (clean text ms ts f) .packet))
+  written : at + 35000 ≤ length out → faultOf text ms ts ≡ 0 → anyWrong (tracksGiven ts) ≡ false → mapAnswer out at text ms ts ≡ Length (length (mapPacket text ms ts))
+  written h f w = accepted out at text ms ts 0 f w (omega (arith, most text ms ts (clean text ms ts f) .packet))
 
-  -- a refusal: 13, or the fault's
-  refusals : (r : Refusal) → mapAnswer out at text ms ts ≡ Refused r → (has (r .number) (24 ∷ 11 ∷ 10 ∷ 13 ∷ []) ≡ true) × (r .place ≡ 0) × (r .lacking ≡ 0)
-  unfolding mapAnswer has
-  refusals r = go (eqb (faultOf text ms ts) 0) refl (ltb (length out - at) (length (mapPacket text ms ts)))
+  -- a refusal: the fault's, 29 or 13
+  pub refused-as : {X : Type 0} (r : Refusal) → mapAnswer out at text ms ts ≡ Refused r
+      → (eqb (faultOf text ms ts) 0 ≡ false → refusal (faultOf text ms ts) 0 ≡ r → X)
+      → (faultOf text ms ts ≡ 0 → anyWrong (tracksGiven ts) ≡ true → refusal 29 0 ≡ r → X)
+      → (faultOf text ms ts ≡ 0 → anyWrong (tracksGiven ts) ≡ false → refusal 13 0 ≡ r → X)
+      → X
+  unfolding mapAnswer
+  refused-as {X} r e fault form room = go (eqb (faultOf text ms ts) 0) refl (anyWrong (tracksGiven ts)) refl (ltb (length out - at) (length (mapPacket text ms ts))) e
     where
-      go : (a : Bool) → eqb (faultOf text ms ts) 0 ≡ a → (b : Bool)
-          → pick a (pick b (refused 13) (Length (length (mapPacket text ms ts)))) (refused (faultOf text ms ts)) ≡ Refused r
-          → (has (r .number) (24 ∷ 11 ∷ 10 ∷ 13 ∷ []) ≡ true) × (r .place ≡ 0) × (r .lacking ≡ 0)
-      go true p true e = let q : refusal 13 0 ≡ r = cc in rw (← q) (refl, refl, refl)
-      go true p false e = absurd (let z : _≡_ {A = ℕ} 0 1 = cc in omega arith)
-      go false p b e = let q : refusal (faultOf text ms ts) 0 ≡ r = cc in rw (← q) (fault-among (faultOf text ms ts) p (fault-named text ms ts), refl, refl)
+      go : (a : Bool) → eqb (faultOf text ms ts) 0 ≡ a → (b : Bool) → anyWrong (tracksGiven ts) ≡ b → (d : Bool)
+          → pick a (pick b (refused 29) (pick d (refused 13) (Length (length (mapPacket text ms ts))))) (refused (faultOf text ms ts)) ≡ Refused r → X
+      go true p true w d e = form (eqb-true (faultOf text ms ts) 0 p) w cc
+      go true p false w true e = room (eqb-true (faultOf text ms ts) 0 p) w cc
+      go true p false w false e = absurd (let z : _≡_ {A = ℕ} 0 1 = cc in omega arith)
+      go false p b w d e = fault p cc
+
+  refusals : (r : Refusal) → mapAnswer out at text ms ts ≡ Refused r → (has (r .number) (24 ∷ 11 ∷ 10 ∷ 29 ∷ 13 ∷ []) ≡ true) × (r .place ≡ 0) × (r .lacking ≡ 0)
+  unfolding has
+  refusals r e =
+      refused-as r e
+      (λ p q. rw (← q) (fault-among (faultOf text ms ts) p (fault-named text ms ts), refl, refl))
+      (λ f w q. rw (← q) (refl, refl, refl))
+      (λ f w q. rw (← q) (refl, refl, refl))
 
   never-13 : (r : Refusal) → at + 35000 ≤ length out → mapAnswer out at text ms ts ≡ Refused r → r .number ≡ 13 → ⊥
-  never-13 r h e n = go (eqb (faultOf text ms ts) 0) refl
-    where
-      go : (a : Bool) → eqb (faultOf text ms ts) 0 ≡ a → ⊥
-      go true p = let w = written h (eqb-true (faultOf text ms ts) 0 p) in absurd (let z : _≡_ {A = ℕ} 0 1 = cc in omega arith)
-      go false p =
-          let w = faulty out at text ms ts (faultOf text ms ts) refl (eqb-false (faultOf text ms ts) 0 p) .0 in
-          let q : refusal (faultOf text ms ts) 0 ≡ r = cc in
-          not-13 (faultOf text ms ts) (fault-named text ms ts) (ap (λ (x : Refusal). x .number) q ∙ n)
+  never-13 r h e n =
+      refused-as r e
+      (λ p q. not-13 (faultOf text ms ts) (fault-named text ms ts) (ap (λ (x : Refusal). x .number) q ∙ n))
+      (λ f w q. absurd (let z : _≡_ {A = ℕ} 29 13 = ap (λ (x : Refusal). x .number) q ∙ n in omega arith))
+      (λ f w q. let l = written h f w in absurd (let z : _≡_ {A = ℕ} 0 1 = cc in omega arith))
 
 fewer-13 : (out : List ℕ) (at : ℕ) → length out - at < 35000 → mapAnswer out at largestText largestMaterial largestTracks ≡ refused 13
 unfolding mapAnswer
-fewer-13 out at h = simp (largest-sound, reached .packet, lt-ltb (length out - at) 35000 h)
+fewer-13 out at h = simp (largest-sound, largest-form, reached .packet, lt-ltb (length out - at) 35000 h)
 
 pub largest : Largest
 largest =
@@ -107,6 +116,7 @@ largest =
       fits = λ text ms ts f. let s = most text ms ts (clean text ms ts f) in (omega (arith, s .materialSection), omega (arith, s .trackSection));
       lengths = lengths;
       sound = largest-sound;
+      form = largest-form;
       reached = reached;
       written = λ out at text ms ts h. written out at text ms ts (omega (arith, h));
       never-13 = λ out at text ms ts r h. never-13 out at text ms ts r (omega (arith, h));

@@ -11,3 +11,4 @@ pub mod Readers
 pub mod RoundTrip
 pub mod ViewGiven
 pub mod Worked
+pub mod WrongForm

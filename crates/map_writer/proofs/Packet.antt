@@ -19,7 +19,7 @@ use Rattle.map.specs.Encode.{padding, packetLength, sectionBytes, front, encode
 use Rattle.map.proofs.Encoded.{front-length, packet-length}
 use Rattle.map_given.specs.Given.{materialSlots, tracksGiven}
 use Rattle.map_writer.specs.Inside.{slotsSize, tracksSize, tracksBytes}
-use Rattle.map_given.specs.Faults.{faultOf}
+use Rattle.map_given.specs.Faults.{faultOf, anyWrong}
 use Rattle.map_writer.specs.Write.{itemsOf, partsGiven, mapPacket, mapAnswer, mapWrittenIn}
 use Rattle.map_writer.proofs.Puts.{slots-length}
 use Rattle.map_writer.proofs.PutTracks.{tracks-length}
@@ -116,7 +116,11 @@ module _ (out : List ℕ) (at : ℕ) (text ms ts : List ℕ) where
   unfolding mapAnswer mapWrittenIn
   faulty n e h = rw (← e) (simp (ne-eqb n 0 h) (refl, refl))
 
-  module _ (f : faultOf text ms ts ≡ 0) where
+  pub wrong-formed : faultOf text ms ts ≡ 0 → anyWrong (tracksGiven ts) ≡ true → (mapAnswer out at text ms ts ≡ refused 29) × (mapWrittenIn out at text ms ts ≡ out)
+  unfolding mapAnswer mapWrittenIn
+  wrong-formed f w = simp (f, w) (refl, refl)
+
+  module _ (f : faultOf text ms ts ≡ 0) (w : anyWrong (tracksGiven ts) ≡ false) where
     abbrev used : ℕ
     used = 22 + slotsSize (materialSlots ms) + tracksSize (tracksGiven ts)
 
@@ -125,7 +129,7 @@ module _ (out : List ℕ) (at : ℕ) (text ms ts : List ℕ) where
 
     answer-is : mapAnswer out at text ms ts ≡ ifRoom out at len
     unfolding mapAnswer
-    answer-is = simp (f, packet-size text ms ts (clean text ms ts f))
+    answer-is = simp (f, w, packet-size text ms ts (clean text ms ts f))
 
     pub no-room : ltb (length out - at) len ≡ true → (mapAnswer out at text ms ts ≡ refused 13) × (mapWrittenIn out at text ms ts ≡ out)
     unfolding mapWrittenIn

@@ -26,7 +26,7 @@ use Rattle.map_given.specs.Given.{tracksGiven}
 use Rattle.map_writer.specs.Write.{partsGiven, partsOfTrack, mapPacket, mapAnswer, mapWrittenIn}
 use Rattle.map_writer.specs.Inside.{tracksBytes}
 use Rattle.map_writer.specs.ReadBack.{ReadBack}
-use Rattle.map_given.specs.Faults.{faultOf}
+use Rattle.map_given.specs.Faults.{faultOf, anyWrong}
 use Rattle.map_given.proofs.Clean.{Clean, clean}
 use Rattle.map_writer.proofs.Packet.{material-size, tracks-size}
 use Rattle.map_writer.proofs.Bounds.{material-most, section-most}
@@ -42,27 +42,29 @@ use Rattle.map_writer.proofs.write.Reads as reads
 length-of-header : (m : List ℕ) → headerAt m 0 ≡ Whole (record { «packet_type» = 0xBC; len = length m }) → 16 ≤ length m
 length-of-header m h = whole m 0 (record { «packet_type» = 0xBC; len = length m }) h .least
 
--- a length was answered: there was no fault, and there was room
+-- a length was answered: there was no fault and no wrong form, and there was room
 pub record Answered (out : List ℕ) (at : ℕ) (text ms ts : List ℕ) (n : ℕ) : Type 0 where
   pub none : faultOf text ms ts ≡ 0
+  pub form : anyWrong (tracksGiven ts) ≡ false
   pub lens : n ≡ length (mapPacket text ms ts)
   pub room : length (mapPacket text ms ts) ≤ length out - at
 
 module _ (out : List ℕ) (at : ℕ) (text ms ts : List ℕ) (n : ℕ) where
   pub answered : mapAnswer out at text ms ts ≡ Length n → Answered out at text ms ts n
   unfolding mapAnswer
-  answered = go (eqb (faultOf text ms ts) 0) refl (ltb (length out - at) (length (mapPacket text ms ts))) refl
+  answered = go (eqb (faultOf text ms ts) 0) refl (anyWrong (tracksGiven ts)) refl (ltb (length out - at) (length (mapPacket text ms ts))) refl
     where
-      go : (a : Bool) → eqb (faultOf text ms ts) 0 ≡ a → (d : Bool) → ltb (length out - at) (length (mapPacket text ms ts)) ≡ d
-          → pick a (pick d (refused 13) (Length (length (mapPacket text ms ts)))) (refused (faultOf text ms ts)) ≡ Length n → Answered out at text ms ts n
-      go true p false r e =
+      go : (a : Bool) → eqb (faultOf text ms ts) 0 ≡ a → (b : Bool) → anyWrong (tracksGiven ts) ≡ b → (d : Bool) → ltb (length out - at) (length (mapPacket text ms ts)) ≡ d
+          → pick a (pick b (refused 29) (pick d (refused 13) (Length (length (mapPacket text ms ts))))) (refused (faultOf text ms ts)) ≡ Length n → Answered out at text ms ts n
+      go true p false w false r e =
           let l : n ≡ length (mapPacket text ms ts) = cc in
-          record { none = eqb-true (faultOf text ms ts) 0 p; lens = l; room = omega (arith, ltb-false) }
-      go true p true r e = absurd (let z : _≡_ {A = ℕ} 0 1 = cc in omega arith)
-      go false p d r e = absurd (let z : _≡_ {A = ℕ} 0 1 = cc in omega arith)
+          record { none = eqb-true (faultOf text ms ts) 0 p; form = w; lens = l; room = omega (arith, ltb-false) }
+      go true p false w true r e = absurd (let z : _≡_ {A = ℕ} 0 1 = cc in omega arith)
+      go true p true w d r e = absurd (let z : _≡_ {A = ℕ} 0 1 = cc in omega arith)
+      go false p b w d r e = absurd (let z : _≡_ {A = ℕ} 0 1 = cc in omega arith)
 
   -- the packet's parts fit their length words
-  fit : Clean text ms ts → Fit (partsGiven text ms ts)
+  pub fit : Clean text ms ts → Fit (partsGiven text ms ts)
   unfolding partsGiven tracksBytes
   fit c =
       let ds = map described (map (partsOfTrack text) (tracksGiven ts)) in
@@ -75,10 +77,10 @@ module _ (out : List ℕ) (at : ℕ) (text ms ts : List ℕ) (n : ℕ) where
         each = split.sized ds (omega (arith, split.length-bytes ds));
       }
 
-  -- the other way: an input without fault is written wherever there is room for it
-  pub accepted : faultOf text ms ts ≡ 0 → at + length (mapPacket text ms ts) ≤ length out → mapAnswer out at text ms ts ≡ Length (length (mapPacket text ms ts))
+  -- the other way: an input without fault and without a wrong form is written wherever there is room for it
+  pub accepted : faultOf text ms ts ≡ 0 → anyWrong (tracksGiven ts) ≡ false → at + length (mapPacket text ms ts) ≤ length out → mapAnswer out at text ms ts ≡ Length (length (mapPacket text ms ts))
   unfolding mapAnswer
-  accepted e h = simp (e, le-ltb (length out - at) (length (mapPacket text ms ts)) (omega arith))
+  accepted e w h = simp (e, w, le-ltb (length out - at) (length (mapPacket text ms ts)) (omega arith))
 
   pub round-trip : mapAnswer out at text ms ts ≡ Length n → ReadBack out at text ms ts n (mapWrittenIn out at text ms ts)
   unfolding mapWrittenIn mapPacket
@@ -88,7 +90,7 @@ module _ (out : List ℕ) (at : ℕ) (text ms ts : List ℕ) (n : ℕ) where
       let f = fit c in
       let p = encode (partsGiven text ms ts) in
       let h = header-of-encoded (partsGiven text ms ts) f in
-      let v = good-encoded (partsGiven text ms ts) f (parts-good text ms ts c) in
+      let v = good-encoded (partsGiven text ms ts) f (parts-good text ms ts c (a .form)) in
       let lens = a .lens in
       let room = a .room in
       let some = length-of-header p h in

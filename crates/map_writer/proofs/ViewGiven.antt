@@ -14,6 +14,7 @@ use Rattle.number.specs.Number.{be, beBytes}
 use Rattle.number.proofs.Laws.{be-back, length-beBytes}
 use Rattle.map_items.specs.Find.{Found, missing, found, find, partOf}
 use Rattle.map_items.specs.Judge.{has}
+use Rattle.map_items.proofs.Anywhere.{never}
 use Rattle.map_answer.specs.Answer as answer
 use Rattle.map_answer.specs.Answer.{allowed, codeOf, isNull}
 use Rattle.map_answer.specs.declared.Value.the-variants as value
@@ -26,7 +27,7 @@ use Rattle.map.specs.Inside.{heldOf, materialViewOfItems, trackViewOfParts, vie
 use Rattle.map.proofs.ViewOfParts.{same-value, same-null}
 use Rattle.map_given.specs.declared.Slot.{Slot}
 use Rattle.map_given.specs.Given.{slotAt, slots, materialSlots, Given, trackAt, tracksFrom}
-use Rattle.map_given.specs.Faults.{isText, isEight, isCode, codeFits, fits, slotFault, slotsFault, nullName, ownFault, tracksFault}
+use Rattle.map_given.specs.Faults.{isText, isEight, isCode, codeFits, fits, slotFault, slotsFault, given, nullName, ownFault, tracksFault}
 use Rattle.map_writer.specs.Write.{slotValue, itemsOf, partsOfTrack, partsGiven}
 use Rattle.map_writer.specs.ViewGiven.{textGiven, eightGiven, valueGiven, codeGiven, materialViewGiven, trackViewGiven, trackViewsGiven, viewGiven}
 use Rattle.map_given.proofs.Laws.{allowed-over, text-fits, gives-4D, gives-4E, gives-4F, names-null}
@@ -47,6 +48,37 @@ module _ (text ws : List ℕ) where
           → find tag q (pick b (record { tag = t; value = slotValue text (slotAt ws at t) } ∷ itemsOf text (slots n ws (at + 3) (t + 1))) (itemsOf text (slots n ws (at + 3) (t + 1)))) ≡ missing
       go true f = simp (ne-eqb t tag (λ e. omega arith)) (f (q + 2 + length (slotValue text (slotAt ws at t))))
       go false f = f q
+
+  -- a tag that is not given is not found
+  pub not-given-missing : (n at t tag q : ℕ) → given tag (slots n ws at t) ≡ false → find tag q (itemsOf text (slots n ws at t)) ≡ missing
+  unfolding slots itemsOf find given
+  not-given-missing zero at t tag q h = refl
+  not-given-missing (suc n) at t tag q h =
+      go (eqb t tag) refl (eqb (getD ws at 0) 1) h (λ e p. later n (at + 3) (t + 1) tag p (omega (arith, eqb-true t tag e))) (λ p. not-given-missing n (at + 3) (t + 1) tag p)
+    where
+      go : (x : Bool) → eqb t tag ≡ x → (b : Bool) → pick x b (given tag (slots n ws (at + 3) (t + 1))) ≡ false
+          → (eqb t tag ≡ true → (p : ℕ) → find tag p (itemsOf text (slots n ws (at + 3) (t + 1))) ≡ missing)
+          → ((p : ℕ) → given tag (slots n ws (at + 3) (t + 1)) ≡ false → find tag p (itemsOf text (slots n ws (at + 3) (t + 1))) ≡ missing)
+          → find tag q (pick b (record { tag = t; value = slotValue text (slotAt ws at t) } ∷ itemsOf text (slots n ws (at + 3) (t + 1))) (itemsOf text (slots n ws (at + 3) (t + 1)))) ≡ missing
+      go true e true h here there = never h
+      go true e false h here there = here e q
+      go false e true h here there = rw e (there (q + 2 + length (slotValue text (slotAt ws at t))) h)
+      go false e false h here there = there q h
+
+  -- and one that is given is
+  pub given-found : (n at t tag q : ℕ) → given tag (slots n ws at t) ≡ true → find tag q (itemsOf text (slots n ws at t)) ≡ missing → ⊥
+  unfolding slots itemsOf find given
+  given-found zero at t tag q h m = never (sym h)
+  given-found (suc n) at t tag q h m = go (eqb t tag) refl (eqb (getD ws at 0) 1) h (λ p. given-found n (at + 3) (t + 1) tag p) m
+    where
+      go : (x : Bool) → eqb t tag ≡ x → (b : Bool) → pick x b (given tag (slots n ws (at + 3) (t + 1))) ≡ true
+          → ((p : ℕ) → given tag (slots n ws (at + 3) (t + 1)) ≡ true → find tag p (itemsOf text (slots n ws (at + 3) (t + 1))) ≡ missing → ⊥)
+          → find tag q (pick b (record { tag = t; value = slotValue text (slotAt ws at t) } ∷ itemsOf text (slots n ws (at + 3) (t + 1))) (itemsOf text (slots n ws (at + 3) (t + 1)))) ≡ missing
+          → ⊥
+      go true e true h there m = absurd (let k = rw e at m in let z : _≡_ {A = ℕ} 0 1 = cc in omega arith)
+      go true e false h there m = never (sym h)
+      go false e true h there m = there (q + 2 + length (slotValue text (slotAt ws at t))) h (rw e at m)
+      go false e false h there m = there q h m
 
   -- the k-th slot is found by its tag
   pub held-slot : (k n at t tag place q : ℕ) → k < n → tag ≡ t + k → place ≡ at + 3 * k
@@ -210,7 +242,7 @@ module _ (text ts : List ℕ) (at : ℕ) (own : ownFault (trackAt ts at) ≡ 0) 
   track-code k tag place l e f a b c =
       ap (codeOf tag) (same-value _ _ (track-held k tag place l e f)) ∙ code-told text (slotAt ts place tag) (track-fault k tag place l e f) a b c
 
-  null-is : isNull (partOf (find 0x4C 0 (itemsOf text (trackAt ts at .slots)))) ≡ nullName (trackAt ts at .slots)
+  pub null-is : isNull (partOf (find 0x4C 0 (itemsOf text (trackAt ts at .slots)))) ≡ nullName (trackAt ts at .slots)
   unfolding isText has
   null-is =
       same-null _ _ (track-held 0 0x4C (at + 2) (omega arith) refl (omega arith))

@@ -1,11 +1,12 @@
 -- Worked examples of the writer: M of the bench readings, and the edges of what it takes.
 use mathlib.Core.Path.{_≡_, refl}
+use mathlib.Core.Bool.{false}
 use mathlib.Core.List.{List, [], _∷_, _++_, map}
 use Prim.Native.Nat.{ℕ}
 use lib.ListN.{replicate}
 use Rattle.number.specs.Number.{beBytes}
 use Rattle.text.specs.Text.{textOk}
-use Rattle.media_type.specs.MediaType.{knownType}
+use Rattle.media_type.specs.MediaType.{knownType, mpegType, wrongForm}
 use Rattle.map_items.specs.Items.{itemsBytes}
 use Rattle.map_items.specs.Judge.{has}
 use Rattle.map_answer.specs.Answer.{allowed}
@@ -15,7 +16,7 @@ use Rattle.map.specs.Encode.{described, padding, packetLength, sectionBytes, fr
 use Rattle.packet_writer.specs.Write.{refused}
 use Rattle.packet_writer.specs.declared.WriteAnswer.the-variants.{Length}
 use Rattle.map_given.specs.Given.{slots, materialSlots, tracksFrom, tracksGiven}
-use Rattle.map_given.specs.Faults.{isText, isEight, isCode, codeFits, fits, reads, slotFault, slotsFault, given, nullName, barred, ownFault, tracksFault, idFault, idsFault, faultOf}
+use Rattle.map_given.specs.Faults.{isText, isEight, isCode, codeFits, fits, reads, slotFault, slotsFault, given, nullName, barred, ownFault, tracksFault, idFault, idsFault, faultOf, givenWrong, anyWrong}
 use Rattle.map_writer.specs.Inside.{slotSize, slotsSize, tracksSize}
 use Rattle.map_writer.specs.Largest.{largestText, largestMaterial, largestTracks}
 use Rattle.map_writer.specs.Write.{slotValue, itemsOf, partsGiven, mapPacket, mapAnswer}
@@ -39,6 +40,10 @@ material first = absent ++ number first ++ absent ++ absent ++ absent ++ absent
 
 abbrev track : ℕ → ℕ → List ℕ → List ℕ → List ℕ
 track mediaType id name rate = (mediaType ∷ id ∷ []) ++ name ++ absent ++ absent ++ absent ++ rate ++ absent ++ absent
+
+-- a track of a 4D and a 4F
+abbrev formed : ℕ → ℕ → List ℕ → List ℕ → List ℕ
+formed mediaType id aux mpeg = (mediaType ∷ id ∷ []) ++ absent ++ aux ++ absent ++ mpeg ++ replicate 9 0
 
 -- the text A1
 abbrev text : List ℕ
@@ -79,16 +84,33 @@ pub edges :
     × (mapAnswer [] 0 (replicate 8 1) (material 0) ((10 ∷ 1 ∷ []) ++ at 0 0 ++ at 0 8 ++ replicate 15 0) ≡ refused 24)
     × (mapAnswer [] 0 (replicate 8 1) (material 0) ((10 ∷ 1 ∷ []) ++ absent ++ at 0 8 ++ replicate 15 0) ≡ refused 13)
     -- a track of 295 bytes: a name of 254 bytes, a 4D, a 4E and the three codes; 22 and 295 bytes, and three zeros
-    × (mapAnswer (replicate 320 7) 0 (replicate 254 0x41) (replicate 18 0) ((11 ∷ 1 ∷ []) ++ at 0 254 ++ at 0 8 ++ number 1 ++ absent ++ number 1 ++ number 1 ++ number 1) ≡ Length 320)
+    × (mapAnswer (replicate 320 7) 0 (replicate 254 0x41) (replicate 18 0) ((10 ∷ 1 ∷ []) ++ at 0 254 ++ at 0 8 ++ number 1 ++ absent ++ number 1 ++ number 1 ++ number 1) ≡ Length 320)
     -- 4D beside 4F
     × (mapAnswer [] 0 (replicate 8 1) (material 0) ((10 ∷ 1 ∷ []) ++ at 0 1 ++ at 0 8 ++ absent ++ at 0 1 ++ replicate 9 0) ≡ refused 10)
-unfolding mapAnswer faultOf slotsFault slotFault fits reads isText isEight isCode codeFits allowed has textOk knownType tracksFault ownFault barred nullName given idsFault idFault slots tracksFrom mapPacket partsGiven itemsOf slotValue encode encode.packetOf front sectionBytes packetLength padding described itemsBytes tracks.descriptionsBytes beBytes
-edges = (refl, refl, refl, refl, refl, refl, refl, refl, refl, refl, refl, refl, refl, refl, refl, refl, refl, refl, refl, refl, refl)
+    -- the wrong form: a 4F on types 10, 21 and 24, a 4D on 11 and 23; with the right one it is the room alone that lacks
+    × (mapAnswer [] 0 text (material 0) (formed 10 1 absent (at 0 2)) ≡ refused 29)
+    × (mapAnswer [] 0 text (material 0) (formed 21 1 absent (at 0 2)) ≡ refused 29)
+    × (mapAnswer [] 0 text (material 0) (formed 24 1 absent (at 0 2)) ≡ refused 29)
+    × (mapAnswer [] 0 (replicate 8 1) (material 0) (formed 11 1 (at 0 8) absent) ≡ refused 29)
+    × (mapAnswer [] 0 (replicate 8 1) (material 0) (formed 23 1 (at 0 8) absent) ≡ refused 29)
+    × (mapAnswer [] 0 text (material 0) (formed 20 1 absent (at 0 2)) ≡ refused 13)
+    × (mapAnswer [] 0 (replicate 8 1) (material 0) (formed 13 1 (at 0 8) absent) ≡ refused 13)
+    -- 24, 11 and 10 of a later track go before it; and 29 of a later one before 13
+    × (mapAnswer [] 0 text (material 0) (formed 10 1 absent (at 0 2) ++ track 5 2 absent absent) ≡ refused 24)
+    × (mapAnswer [] 0 (0x41 ∷ 0x80 ∷ []) (material 0) (formed 10 1 absent (at 0 1) ++ track 10 2 (at 0 2) absent) ≡ refused 11)
+    × (mapAnswer [] 0 text (material 0) (formed 10 1 absent (at 0 2) ++ track 10 1 absent absent) ≡ refused 10)
+    × (mapAnswer [] 0 text (material 0) (track 10 1 absent absent ++ formed 10 2 absent (at 0 2)) ≡ refused 29)
+unfolding mapAnswer anyWrong givenWrong wrongForm mpegType faultOf slotsFault slotFault fits reads isText isEight isCode codeFits allowed has textOk knownType tracksFault ownFault barred nullName given idsFault idFault slots tracksFrom mapPacket partsGiven itemsOf slotValue encode encode.packetOf front sectionBytes packetLength padding described itemsBytes tracks.descriptionsBytes beBytes
+edges = (refl, refl, refl, refl, refl, refl, refl, refl, refl, refl, refl, refl, refl, refl, refl, refl, refl, refl, refl, refl, refl, refl, refl, refl, refl, refl, refl, refl, refl, refl, refl, refl)
 
 -- the largest map has no fault; and what its items and its tracks take
 pub largest-sound : faultOf largestText largestMaterial largestTracks ≡ 0
 unfolding faultOf slotsFault slotFault fits reads isText isEight isCode codeFits allowed has textOk knownType tracksFault ownFault barred nullName given idsFault idFault slots tracksFrom
 largest-sound = refl
+
+pub largest-form : anyWrong (tracksGiven largestTracks) ≡ false
+unfolding anyWrong givenWrong wrongForm mpegType given slots tracksFrom
+largest-form = refl
 
 pub largest-material : slotsSize (materialSlots largestMaterial) ≡ 287
 unfolding slots slotsSize slotSize isText isEight has

@@ -2,7 +2,7 @@
 -- A length word states up to 65,535 bytes, so each section fits, and no refusal is needed for one that does not. Proved in proofs/Largest.antt.
 use Prim.Native.Nat.{ℕ, zero, suc, _+_, _-_, _≤_, _<_}
 use mathlib.Core.Path.{_≡_}
-use mathlib.Core.Bool.{true}
+use mathlib.Core.Bool.{true, false}
 use mathlib.Core.List.{List, [], _∷_, _++_, map}
 use lib.ListN.{length, replicate}
 use Rattle.plate.specs.declared.Refusal.{Refusal}
@@ -12,7 +12,8 @@ use Rattle.map_tracks.specs.Tracks as tracks
 use Rattle.map.specs.Encode.{TrackParts, MapParts, described}
 use Rattle.packet_writer.specs.Write.{refused}
 use Rattle.packet_writer.specs.declared.WriteAnswer.the-variants.{Length, Refused}
-use Rattle.map_given.specs.Faults.{faultOf}
+use Rattle.map_given.specs.Given.{tracksGiven}
+use Rattle.map_given.specs.Faults.{faultOf, anyWrong}
 use Rattle.map_writer.specs.Write.{partsGiven, mapPacket, mapAnswer}
 
 -- the lengths of the two sections
@@ -74,13 +75,14 @@ pub record Largest : Type 0 where
   pub fits : (text ms ts : List ℕ) → faultOf text ms ts ≡ 0 → (materialLength (partsGiven text ms ts) ≤ 65535) × (tracksLength (partsGiven text ms ts) ≤ 65535)
   -- and a length that is answered is 35,000 at most
   pub lengths : (out : List ℕ) (at : ℕ) (text ms ts : List ℕ) (n : ℕ) → mapAnswer out at text ms ts ≡ Length n → n ≤ 35000
-  -- the largest map, which has none of the three faults, is at every one of the bounds
+  -- the largest map, which has no 24, 11 or 10 and no wrong form, is at every one of the bounds
   pub sound : faultOf largestText largestMaterial largestTracks ≡ 0
+  pub form : anyWrong (tracksGiven largestTracks) ≡ false
   pub reached : Sizes (_≡_ {A = ℕ}) largestText largestMaterial largestTracks
   -- 35,000 bytes from the place on are room enough for every map: it is written, and no call is refused with 13
-  pub written : (out : List ℕ) (at : ℕ) (text ms ts : List ℕ) → at + 35000 ≤ length out → faultOf text ms ts ≡ 0 → mapAnswer out at text ms ts ≡ Length (length (mapPacket text ms ts))
+  pub written : (out : List ℕ) (at : ℕ) (text ms ts : List ℕ) → at + 35000 ≤ length out → faultOf text ms ts ≡ 0 → anyWrong (tracksGiven ts) ≡ false → mapAnswer out at text ms ts ≡ Length (length (mapPacket text ms ts))
   pub never-13 : (out : List ℕ) (at : ℕ) (text ms ts : List ℕ) (r : Refusal) → at + 35000 ≤ length out → mapAnswer out at text ms ts ≡ Refused r → r .number ≡ 13 → ⊥
   -- and fewer are not: the largest map is refused there
   pub fewer-13 : (out : List ℕ) (at : ℕ) → length out - at < 35000 → mapAnswer out at largestText largestMaterial largestTracks ≡ refused 13
-  -- a refusal is 24, 11, 10 or 13, its place is 0, and no bytes lack with it
-  pub refusals : (out : List ℕ) (at : ℕ) (text ms ts : List ℕ) (r : Refusal) → mapAnswer out at text ms ts ≡ Refused r → (has (r .number) (24 ∷ 11 ∷ 10 ∷ 13 ∷ []) ≡ true) × (r .place ≡ 0) × (r .lacking ≡ 0)
+  -- a refusal is 24, 11, 10, 29 or 13, its place is 0, and no bytes lack with it
+  pub refusals : (out : List ℕ) (at : ℕ) (text ms ts : List ℕ) (r : Refusal) → mapAnswer out at text ms ts ≡ Refused r → (has (r .number) (24 ∷ 11 ∷ 10 ∷ 29 ∷ 13 ∷ []) ≡ true) × (r .place ≡ 0) × (r .lacking ≡ 0)

@@ -5,3 +5,4 @@ pub mod ReadBack
 pub mod Readers
 pub mod ViewGiven
 pub mod Write
+pub mod WrongForm

@@ -1,4 +1,4 @@
--- Writing a map (RDD 14, clause 7.1, Tables 3 to 6; 01, "Writers"): the packet, the answer, and what the buffer then holds.
+-- Writing a map (RDD 14, clause 7.1, Tables 3 to 6; 01, "Writers"; 02, §12): the packet, the answer, and what the buffer then holds.
 use Prim.Native.Nat.{ℕ, _+_}
 use mathlib.Core.List.{List, [], _∷_, _++_, map}
 use lib.ListN.{length}
@@ -10,7 +10,7 @@ use Rattle.map.specs.Encode.{TrackParts, MapParts, encode}
 use Rattle.packet_writer.specs.Write.{refused, ifRoom, bufferAfter}
 use Rattle.packet_writer.specs.declared.WriteAnswer.{WriteAnswer}
 use Rattle.map_given.specs.Given.{materialSlots, Given, tracksGiven}
-use Rattle.map_given.specs.Faults.{isText, isEight, slotPart, faultOf}
+use Rattle.map_given.specs.Faults.{isText, isEight, slotPart, faultOf, anyWrong}
 use Rattle.map_given.specs.declared.Slot.{Slot}
 
 -- the bytes of a present slot's item: a text gets its 00; a number has four bytes, and so have −1 and −2
@@ -39,9 +39,12 @@ partsGiven text ms ts =
 unfoldable pub mapPacket : List ℕ → List ℕ → List ℕ → List ℕ
 mapPacket text ms ts = encode (partsGiven text ms ts)
 
--- 24, 11, 10; then 13; else the packet's length
+-- 24, 11, 10; then 29; then 13; else the packet's length
 unfoldable pub mapAnswer : List ℕ → ℕ → List ℕ → List ℕ → List ℕ → WriteAnswer
-mapAnswer out at text ms ts = pick (eqb (faultOf text ms ts) 0) (ifRoom out at (length (mapPacket text ms ts))) (refused (faultOf text ms ts))
+mapAnswer out at text ms ts =
+    pick (eqb (faultOf text ms ts) 0)
+    (pick (anyWrong (tracksGiven ts)) (refused 29) (ifRoom out at (length (mapPacket text ms ts))))
+    (refused (faultOf text ms ts))
 
 -- what the buffer then holds
 unfoldable pub mapWrittenIn : List ℕ → ℕ → List ℕ → List ℕ → List ℕ → List ℕ

@@ -230,7 +230,7 @@ fn put_packet(out: &mut [u8], text: &[u8], material: &[u64], tracks: &[u64], m: 
     number::put_be(out, used, 0, pad); // zeros
 }
 
-// Writes a map packet at a place of the buffer: refusals 24, 11, 10 and 13, in this order.
+// Writes a map packet at a place of the buffer: refusals 24, 11, 10, 29 and 13, in this order.
 // The material is a record of MATERIAL_WORDS words, the tracks are records of TRACK_WORDS words each; texts and 4D are parts of the lent text.
 pub fn write(
     out: &mut [u8],
@@ -244,6 +244,9 @@ pub fn write(
     let number = map_given::fault(text, material, tracks);
     if number != 0 {
         return WriteAnswer::Refused(plate::refuse(number, 0));
+    }
+    if map_given::any_wrong(tracks) {
+        return WriteAnswer::Refused(plate::refuse(plate::WRONG_FORM, 0));
     }
     let m = slots_size(material, 0, 0x40, 6);
     let t = tracks_size(tracks);
