@@ -1,7 +1,7 @@
 #!/usr/bin/env python3
 """twins.py: makes the maps that the program `twins` reads, and the lines that it must write.
 Each map has a twin: the same map without what document 01 leaves unknown or reserved. Maps are made from items and tracks; a twin
-is also found a second way, by taking the map's bytes apart, and the two must agree. It is written from document 01 alone.
+is also found a second way, by taking the map's bytes apart, and the two must agree. It is written from document 01 and §12 of 02 alone.
 Same seed, same files: crates/twins/data/*.gxf, crates/twins/stdout, and some of the pairs as a table for the checker, crates/map_newer/proofs/Outside.antt.
 Run `rt fmt` afterwards."""
 import os, random, struct
@@ -10,6 +10,7 @@ HERE = os.path.join(os.path.dirname(os.path.abspath(__file__)), '..', 'crates', 
 MATERIAL_TAGS = range(0x40, 0x46)
 TRACK_TAGS = range(0x4C, 0x53)
 TYPES = [3, 4] + list(range(7, 19)) + list(range(20, 27))
+MPEG = [11, 12, 20, 22, 23]
 CODES = {0x50: list(range(1, 9)), 0x51: [1, 2, 4, 6], 0x52: [1, 2]}
 GIVEN = [0xFFFFFFFF, 0xFFFFFFFE]
 
@@ -58,11 +59,14 @@ def material(strange):
             items.append((tag, number(), True))
     return mixed(items, [unknown(MATERIAL_TAGS) for _ in range(R.choice([0, 1, 2, 3]) if strange else 0)])
 
-def track_items(strange):
+def track_items(kind, strange):
     items = []
     if R.random() < .8:
         items.append((0x4C, b'\0' if R.random() < .3 else text(), True))
     form = R.choice([None, 0x4D, 0x4F])
+    if form and kind in TYPES and (0x4C, b'\0', True) not in items:
+        # 4F for MPEG video and 4D for the rest; unlisted tracks, and those with a null name, may have either
+        form = 0x4F if kind in MPEG else 0x4D
     if form == 0x4D:
         items.append((0x4D, some_bytes(8), True))
     if form == 0x4F:
@@ -82,7 +86,7 @@ def a_map(strange=True):
     for i in ids:
         known = not strange or R.random() < .7
         kind = R.choice(TYPES) if known else R.choice([t for t in range(128) if t not in TYPES])
-        tracks.append((kind, i, [] if R.random() < .15 else track_items(strange)))
+        tracks.append((kind, i, [] if R.random() < .15 else track_items(kind, strange)))
     return (some_bytes(4), R.randrange(256), [] if R.random() < .1 else material(strange), tracks)
 
 def coded(items):

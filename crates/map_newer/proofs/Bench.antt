@@ -10,7 +10,7 @@ use borrow.Author.Tests.{ltb-true}
 use Rattle.plate.specs.Choice.{pick}
 use Rattle.number.specs.Number.{be, beBytes}
 use Rattle.number.proofs.Bytes.{AllBytes, by-number}
-use Rattle.media_type.specs.MediaType.{knownType}
+use Rattle.media_type.specs.MediaType.{knownType, mpegType, wrongForm}
 use Rattle.text.specs.Text.{textOk}
 use Rattle.packet.specs.Packet.{headerAt, sizedAt, packetAt}
 use Rattle.map_items.specs.Items as items
@@ -83,7 +83,7 @@ seen : (s : List ℕ) (m : MapSays) → bytesAre s ≡ true → be s 6 4 ≡ len
 seen s m b l e = record { bytes = λ i. by-number s (bytes-are s b) i .fits; alone = l; says = m; read = e }
 
 all-accepted : Accepted M × Accepted newer × Accepted reserved × Accepted shortest × Accepted longer × Accepted spotted
-unfolding bytesAre be headerAt sizedAt packetAt knownType textOk items.splitItems items.sectionOf items.itemsSize judge.formOf judge.isKnown judge.faultOf judge.countsAs judge.has judge.judgeItems judge.verdictOf find.find answer.valueOf answer.materialOf tracks.splitTracks tracks.tracksOf tracks.trackVerdict tracks.endVerdict tracks.judgeTracks tracks.tracksVerdict tracks.isListed tracks.listed map.afterMaterial map.layoutOf map.bothVerdict map.sectionsVerdict map.mapVerdict map.materialSays map.listedIn map.answerOf map.mapAt
+unfolding bytesAre be headerAt sizedAt packetAt knownType mpegType wrongForm textOk items.splitItems items.sectionOf items.itemsSize judge.formOf judge.isKnown judge.faultOf judge.countsAs judge.has judge.judgeItems judge.verdictOf find.find answer.isNull answer.valueOf answer.materialOf tracks.splitTracks tracks.tracksOf tracks.trackOver tracks.trackVerdict tracks.endVerdict tracks.judgeTracks tracks.tracksVerdict tracks.isListed tracks.listed map.afterMaterial map.layoutOf map.bothVerdict map.sectionsVerdict map.mapVerdict map.materialSays map.listedIn map.answerOf map.mapAt
 all-accepted = (
   seen M (saying 1 (value.Is 0)) refl refl refl,
   seen newer (saying 1 (value.Is 0)) refl refl refl,

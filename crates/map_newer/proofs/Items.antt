@@ -17,6 +17,7 @@ use Rattle.map_items.specs.declared.Section.the-variants as section
 use Rattle.map_items.specs.declared.Form.{Form}
 use Rattle.map_items.specs.declared.Form.the-variants as form
 use Rattle.map_items.specs.declared.Verdict.the-variants.{Accepted}
+use Rattle.map_items.proofs.Alone.{has-more}
 use Rattle.map_items.proofs.Anywhere.{never, not-accepted, item-anywhere, judge-anywhere}
 use Rattle.map_answer.specs.Answer.{valueOf, codeOf}
 use Rattle.map_answer.specs.declared.Code.{Code}
@@ -153,14 +154,6 @@ kept-held tag stays s q r (i ∷ is) = go (eqb (i .tag) tag) (stays i) refl refl
     go false true y z h = rw y (h (q + 2 + length (i .value)))
     go false false y z h = h q
 
-still-has : (n m : ℕ) (ms : List ℕ) → has n ms ≡ true → has n (m ∷ ms) ≡ true
-unfolding has
-still-has n m ms h = go (eqb n m)
-  where
-    go : (b : Bool) → pick b true (has n ms) ≡ true
-    go true = refl
-    go false = h
-
 pub has-first : (n : ℕ) (ms : List ℕ) → has n (n ∷ ms) ≡ true
 unfolding has
 has-first n ms = rw (eq-eqb n n refl)
@@ -190,7 +183,7 @@ gone tag known stays seen p q (i ∷ is) h e =
     go a b false y z k l m rest e = not-accepted (faultOf (formOf section.Track (i .tag)) (i .value)) p e
     go a b true true true k l m rest e = not-accepted 10 p e
     go true b true true false k l m rest e = never (sym h ∙ ap (λ (t : ℕ). has (countsAs t) seen) (sym (eqb-true _ _ k)) ∙ m)
-    go false b true true false k l m rest e = on b k (λ r. rest (c ∷ seen) r (still-has (countsAs tag) c seen h) e)
+    go false b true true false k l m rest e = on b k (λ r. rest (c ∷ seen) r (has-more (countsAs tag) c seen h) e)
     go true b true false z k l m rest e = never (sym known ∙ ap (λ (t : ℕ). isKnown (formOf section.Track t)) (sym (eqb-true _ _ k)) ∙ l)
     go false b true false z k l m rest e = on b k (λ r. rest seen r h e)
 

@@ -1,16 +1,17 @@
 -- Tracks struck and set in.
-use Prim.Native.Nat.{ℕ, zero, suc, _+_, _<_, _≤_}
-use mathlib.Core.Path.{_≡_, refl, sym, _∙_}
+use Prim.Native.Nat.{ℕ, zero, suc, _+_, _-_, _<_, _≤_}
+use mathlib.Core.Path.{_≡_, refl, sym, _∙_, ap}
 use mathlib.Core.Bool.{Bool, true, false}
 use mathlib.Core.List.{List, [], _∷_, _++_, map}
 use native.Mathlib.Omega.{arith}
 use lib.ListN.{length}
+use Rattle.media_type.specs.MediaType.{mpegType, wrongForm}
 use Rattle.plate.specs.Choice.{pick, within}
 use Rattle.number.specs.Number.{beBytes}
 use Rattle.number.proofs.Bytes.{AllBytes, bytes-join, bytes-left, bytes-right, bytes-number}
 use Rattle.map_items.specs.Items.{Item, itemsBytes}
-use Rattle.map_items.specs.Judge.{formOf, isKnown, has, judgeItems, verdictOf}
-use Rattle.map_items.specs.Find.{find}
+use Rattle.map_items.specs.Judge.{formOf, isKnown, has, judgeItems}
+use Rattle.map_items.specs.Find.{Found, missing, found, find}
 use Rattle.map_items.specs.declared.Section.the-variants as section
 use Rattle.map_items.specs.declared.Verdict.the-variants.{Accepted}
 use Rattle.map_items.proofs.Anywhere.{both-accepted, verdict-bytes, judge-anywhere}
@@ -18,24 +19,24 @@ use Rattle.map_items.proofs.Split as split
 use Rattle.map_tracks.specs.Tracks.{over, trackOver, trackVerdict, judgeTracks, isListed}
 use Rattle.map_tracks.specs.Tracks as tracks
 use Rattle.map_tracks.specs.Inside as inside-tracks
-use Rattle.map_tracks.proofs.Anywhere.{passed, pass, tracks-anywhere}
+use Rattle.map_tracks.proofs.Anywhere.{track-accepted, passed, pass, tracks-anywhere}
+use Rattle.map_tracks.proofs.Form.{sizeOf, over-alike, over-anywhere, name-known, form-known}
 use Rattle.map.specs.Encode.{TrackParts, described}
 use Rattle.map.specs.Parts.{listedOf}
-use Rattle.map.specs.Inside.{trackViewOfParts}
+use Rattle.map.specs.Inside.{heldOf, trackViewOfParts}
 use Rattle.map.proofs.ViewOfParts.{same-value, same-null}
 use Rattle.map_newer.specs.Strike.{kept, trackStays, struckTrack, setAt, setInTrack}
 use Rattle.map_newer.proofs.Items.{Fewer, fewer-both, fewer-one, kept-again, kept-set, kept-good, set-good, kept-size, set-size, kept-bytes, set-bytes, kept-held, kept-code}
 
--- a track put together is judged by its items
-track-good : (typeByte : ℕ) (is : List Item) (p : ℕ) → judgeItems section.Track [] p is ≡ Accepted → trackVerdict typeByte (itemsBytes is) p ≡ Accepted
+-- a track put together is judged by its items and its end
+track-good : (typeByte : ℕ) (is : List Item) (p : ℕ) → judgeItems section.Track [] p is ≡ Accepted → trackOver typeByte is p ≡ Accepted → trackVerdict typeByte (itemsBytes is) p ≡ Accepted
 unfolding trackVerdict
-track-good typeByte is p e = rw (verdict-bytes section.Track is p, e)
+track-good typeByte is p e o = rw (verdict-bytes section.Track is p, e, split.section-bytes is) o
 
-good-track : (typeByte : ℕ) (is : List Item) (p : ℕ) → trackVerdict typeByte (itemsBytes is) p ≡ Accepted → judgeItems section.Track [] p is ≡ Accepted
-unfolding trackVerdict
+good-track : (typeByte : ℕ) (is : List Item) (p : ℕ) → trackVerdict typeByte (itemsBytes is) p ≡ Accepted → (judgeItems section.Track [] p is ≡ Accepted) × (trackOver typeByte is p ≡ Accepted)
 good-track typeByte is p e =
-    let a = both-accepted (verdictOf section.Track (itemsBytes is) p) (trackOver typeByte (itemsBytes is) p) e .0 in
-    both-accepted (judgeItems section.Track [] p is) Accepted (sym (verdict-bytes section.Track is p) ∙ a) .0
+    let a = track-accepted typeByte (itemsBytes is) p e in
+    (both-accepted (judgeItems section.Track [] p is) Accepted (sym (verdict-bytes section.Track is p) ∙ a .0) .0, rw (split.section-bytes is) at (a .1))
 
 -- one track more in front of accepted ones, and what such a track has met
 pub record Front (ids : List ℕ) (t : TrackParts) (ts : List TrackParts) : Type 0 where
@@ -43,17 +44,20 @@ pub record Front (ids : List ℕ) (t : TrackParts) (ts : List TrackParts) : Type
   pub id : 0xC0 ≤ t .id
   pub fresh : has (t .id) ids ≡ false
   pub items : judgeItems section.Track [] 0 (t .items) ≡ Accepted
+  pub form : trackOver (t .typeByte) (t .items) 0 ≡ Accepted
   pub rest : judgeTracks (t .id ∷ ids) 0 (map described ts) over ≡ Accepted
 
 pub in-front : (ids : List ℕ) (t : TrackParts) (ts : List TrackParts) → judgeTracks ids 0 (map described (t ∷ ts)) over ≡ Accepted → Front ids t ts
 unfolding described
 in-front ids t ts e =
     let w = passed ids 0 (described t) (map described ts) over e in
+    let g = good-track (t .typeByte) (t .items) 4 (w .items) in
     record {
       typeByte = w .typeByte;
       id = w .id;
       fresh = w .fresh;
-      items = judge-anywhere section.Track [] 4 0 (t .items) (good-track (t .typeByte) (t .items) 4 (w .items));
+      items = judge-anywhere section.Track [] 4 0 (t .items) (g .0);
+      form = over-anywhere (t .typeByte) (t .items) 4 0 (g .1);
       rest = tracks-anywhere (t .id ∷ ids) _ 0 (map described ts) (w .rest);
     }
 
@@ -65,9 +69,50 @@ put-front ids t ts w =
       typeByte = w .typeByte;
       id = w .id;
       fresh = w .fresh;
-      items = track-good (t .typeByte) (t .items) 4 (judge-anywhere section.Track [] 0 4 (t .items) (w .items));
+      items = track-good (t .typeByte) (t .items) 4 (judge-anywhere section.Track [] 0 4 (t .items) (w .items)) (over-anywhere (t .typeByte) (t .items) 0 4 (w .form));
       rest = tracks-anywhere (t .id ∷ ids) 0 (4 + length (itemsBytes (t .items))) (map described ts) (w .rest);
     })
+
+-- an item stays whose tag is known and no code's
+stays : (tag : ℕ) → isKnown (formOf section.Track tag) ≡ true → within 0x50 0x52 tag ≡ false → (i : Item) → i .tag ≡ tag → trackStays i ≡ true
+unfolding trackStays
+stays tag k c i e = rw (e, k, c)
+
+-- an unknown item goes
+unknown-goes : (i : Item) → isKnown (formOf section.Track (i .tag)) ≡ false → trackStays i ≡ false
+unfolding trackStays
+unknown-goes i u = rw u
+
+-- name and form are found as before, struck or with an unknown item set in: 4C, 4D and 4F always stay, and an unknown item is none of them
+form-no-code : (typeByte : ℕ) → within 0x50 0x52 (wrongForm (typeByte - 0x80)) ≡ false
+unfolding wrongForm
+form-no-code typeByte = go (mpegType (typeByte - 0x80))
+  where
+    go : (b : Bool) → within 0x50 0x52 (pick b 0x4D 0x4F) ≡ false
+    go true = refl
+    go false = refl
+
+same-size : (x y : Found) → heldOf x ≡ heldOf y → sizeOf x ≡ sizeOf y
+unfolding heldOf sizeOf
+same-size missing missing e = refl
+same-size missing (found q w) e = absurd (let z : _≡_ {A = ℕ} 0 1 = cc in omega arith)
+same-size (found p v) missing e = absurd (let z : _≡_ {A = ℕ} 0 1 = cc in omega arith)
+same-size (found p v) (found q w) e = let z : length v ≡ length w = cc in ap suc z
+
+pub struck-form : (typeByte : ℕ) (is : List Item) → (trackOver typeByte (kept trackStays is) 0 ≡ Accepted → trackOver typeByte is 0 ≡ Accepted) × (trackOver typeByte is 0 ≡ Accepted → trackOver typeByte (kept trackStays is) 0 ≡ Accepted)
+struck-form typeByte is =
+    let wrong = wrongForm (typeByte - 0x80) in
+    let n = same-size (find 0x4C 0 (kept trackStays is)) (find 0x4C 0 is) (kept-held 0x4C trackStays (stays 0x4C name-known refl) 0 0 is) in
+    let w = same-size (find wrong 0 (kept trackStays is)) (find wrong 0 is) (kept-held wrong trackStays (stays wrong (form-known (typeByte - 0x80)) (form-no-code typeByte)) 0 0 is) in
+    (over-alike typeByte (kept trackStays is) is 0 0 n w, over-alike typeByte is (kept trackStays is) 0 0 (sym n) (sym w))
+
+pub set-form : (typeByte k : ℕ) (i : Item) (is : List Item) → isKnown (formOf section.Track (i .tag)) ≡ false
+    → (trackOver typeByte (setAt k i is) 0 ≡ Accepted → trackOver typeByte is 0 ≡ Accepted) × (trackOver typeByte is 0 ≡ Accepted → trackOver typeByte (setAt k i is) 0 ≡ Accepted)
+set-form typeByte k i is u =
+    let with = struck-form typeByte (setAt k i is) in
+    let without = struck-form typeByte is in
+    let same = kept-set trackStays k i is (unknown-goes i u) in
+    (λ e. without .0 (rw same at (with .1 e)), λ e. with .0 (rw same (without .1 e)))
 
 -- accepted tracks stay accepted, struck or with an unknown item set in
 pub struck-tracks-good : (more fewer : List ℕ) (ts : List TrackParts) → Fewer fewer more → judgeTracks more 0 (map described ts) over ≡ Accepted
@@ -86,6 +131,7 @@ struck-tracks-good more fewer (t ∷ ts) f e = go (isListed (described t)) (in-f
           id = w .id;
           fresh = f (t .id) (w .fresh);
           items = kept-good section.Track trackStays [] [] 0 0 (t .items) (λ n e. e) (w .items);
+          form = struck-form (t .typeByte) (t .items) .1 (w .form);
           rest = rest (t .id ∷ fewer) (t .id ∷ more) (fewer-both (t .id) fewer more f) (w .rest);
         })
     go false w rest = rest fewer (t .id ∷ more) (fewer-one (t .id) fewer more f) (w .rest)
@@ -98,17 +144,13 @@ set-tracks-good ids (suc j) k i [] u e = e
 set-tracks-good ids zero k i (t ∷ ts) u e =
     let w = in-front ids t ts e in
     put-front ids (record { typeByte = t .typeByte; id = t .id; items = setAt k i (t .items) }) ts
-    (record { typeByte = w .typeByte; id = w .id; fresh = w .fresh; items = set-good section.Track [] 0 0 k i (t .items) u (w .items); rest = w .rest })
+    (record { typeByte = w .typeByte; id = w .id; fresh = w .fresh; items = set-good section.Track [] 0 0 k i (t .items) u (w .items); form = set-form (t .typeByte) k i (t .items) u .1 (w .form); rest = w .rest })
 set-tracks-good ids (suc j) k i (t ∷ ts) u e =
     let w = in-front ids t ts e in
     put-front ids t (setInTrack j k i ts)
-    (record { typeByte = w .typeByte; id = w .id; fresh = w .fresh; items = w .items; rest = set-tracks-good (t .id ∷ ids) j k i ts u (w .rest) })
+    (record { typeByte = w .typeByte; id = w .id; fresh = w .fresh; items = w .items; form = w .form; rest = set-tracks-good (t .id ∷ ids) j k i ts u (w .rest) })
 
 -- a struck track says what the track says
-stays : (tag : ℕ) → isKnown (formOf section.Track tag) ≡ true → within 0x50 0x52 tag ≡ false → (i : Item) → i .tag ≡ tag → trackStays i ≡ true
-unfolding trackStays
-stays tag k c i e = rw (e, k, c)
-
 pub struck-track-said : (t : TrackParts) → judgeItems section.Track [] 0 (t .items) ≡ Accepted → trackViewOfParts (struckTrack t) ≡ trackViewOfParts t
 unfolding trackViewOfParts struckTrack formOf isKnown
 struck-track-said t e =
@@ -157,11 +199,7 @@ unfolding struckTrack
 struck-twice [] = refl
 struck-twice (t ∷ ts) = rw (kept-again trackStays (t .items), struck-twice ts)
 
--- an unknown item set in is struck again, and a track is listed with it as without it
-unknown-goes : (i : Item) → isKnown (formOf section.Track (i .tag)) ≡ false → trackStays i ≡ false
-unfolding trackStays
-unknown-goes i u = rw u
-
+-- a track is listed with an item set in as without it
 listed-set : (t : TrackParts) (is : List Item) → isListed (described (record { typeByte = t .typeByte; id = t .id; items = is })) ≡ isListed (described t)
 unfolding isListed described
 listed-set t is = refl
