@@ -1,5 +1,6 @@
 pub mod Calls
 pub mod Cases
+pub mod Forms
 pub mod Given
 pub mod Pairs
 pub mod Streams

@@ -4,7 +4,7 @@ use mathlib.Core.Path.{_≡_, refl}
 use mathlib.Core.List.{List, [], _∷_, _++_}
 use lib.ListN.{take, drop}
 use Rattle.number.specs.Number.{be, le}
-use Rattle.media_type.specs.MediaType.{knownType}
+use Rattle.media_type.specs.MediaType.{knownType, mpegType, wrongForm}
 use Rattle.text.specs.Text.{textOk}
 use Rattle.packet.specs.Packet.{headerAt, sizedAt, packetAt}
 use Rattle.plate.specs.Plate.{refusal}
@@ -101,7 +101,7 @@ pub record Pairs : Type 0 where
   pub no-text : mpeg.readOf [] ≡ mpeg-answer.Refused (refusal 11 0)
 
 pub pairs : Pairs
-unfolding headerAt sizedAt packetAt be le knownType textOk items.splitItems items.sectionOf items.itemsSize judge.formOf judge.isKnown judge.faultOf judge.countsAs judge.has judge.judgeItems judge.verdictOf find.find answer.valueOf answer.allowed answer.codeOf answer.isNull answer.trackOf tracks.splitTracks tracks.tracksOf tracks.trackVerdict tracks.endVerdict tracks.judgeTracks tracks.tracksVerdict tracks.isListed tracks.listed tracks.recordOf tracks.idOf map.afterMaterial map.layoutOf map.bothVerdict map.sectionsVerdict map.mapVerdict map.listedIn locator.tableOf locator.tableAt locator.positionOf locator.positionAt media.preambleOf media.preambleAt name.openedOf name.unended name.nameIn name.nameAt name.nameOfTwoAt mpeg.readOf mpeg.judgeLines mpeg.taken mpeg.parametersAnswer lines.linesAt lines.linesFrom lines.labelAt parameter.lacking parameter.parametersOf parameter.valueOfRow parameter.numberOf parameter.given parameter.wanting parameter.amountOf table.table table.rowAt table.otherRow table.rowFor table.rowOf decimal.rateOf decimal.wholeOf decimal.numeralOf decimal.fractionOf decimal.digits scan.run scan.runEnd scan.alnum scan.other
+unfolding headerAt sizedAt packetAt be le knownType mpegType wrongForm textOk items.splitItems items.sectionOf items.itemsSize judge.formOf judge.isKnown judge.faultOf judge.countsAs judge.has judge.judgeItems judge.verdictOf find.find answer.valueOf answer.allowed answer.codeOf answer.isNull answer.trackOf tracks.splitTracks tracks.tracksOf tracks.trackOver tracks.trackVerdict tracks.endVerdict tracks.judgeTracks tracks.tracksVerdict tracks.isListed tracks.listed tracks.recordOf tracks.idOf map.afterMaterial map.layoutOf map.bothVerdict map.sectionsVerdict map.mapVerdict map.listedIn locator.tableOf locator.tableAt locator.positionOf locator.positionAt media.preambleOf media.preambleAt name.openedOf name.unended name.nameIn name.nameAt name.nameOfTwoAt mpeg.readOf mpeg.judgeLines mpeg.taken mpeg.parametersAnswer lines.linesAt lines.linesFrom lines.labelAt parameter.lacking parameter.parametersOf parameter.valueOfRow parameter.numberOf parameter.given parameter.wanting parameter.amountOf table.table table.rowAt table.otherRow table.rowFor table.rowOf decimal.rateOf decimal.wholeOf decimal.numeralOf decimal.fractionOf decimal.digits scan.run scan.runEnd scan.alnum scan.other
 pairs =
     record {
       table-40 = refl;

@@ -12,6 +12,7 @@ use Rattle.book.specs.declared.LookupAnswer.the-variants as lookup
 use Rattle.book_builder.specs.BookBuilder as builder
 use Rattle.book_builder.specs.declared.BuildAnswer.the-variants as build
 use Rattle.map.proofs.Samples.{headed, M}
+use Rattle.paper_readings.specs.Forms.{with, name, rate, mpeg}
 
 -- a media packet of track 1, type 10, with a field number under 256
 abbrev pub carrying : ℕ → List ℕ
@@ -27,6 +28,13 @@ mute = M ++ headed 0xFD 16 ++ headed 0xFB 16
 
 abbrev pub unnoted : List ℕ
 unnoted = M ++ carrying 0 ++ headed 0xFB 16
+
+-- M with a 4F behind the rate, 48 bytes, and a stream whose second map it is
+abbrev pub deformed : List ℕ
+deformed = with 0x8A (name ++ rate ++ mpeg)
+
+abbrev pub reformed : List ℕ
+reformed = M ++ headed 0xFD 16 ++ deformed ++ headed 0xFB 16
 
 -- the book of S: two records of 16 bytes
 abbrev pub B : List ℕ
@@ -56,6 +64,11 @@ pub record Computed : Type 0 where
   -- a first packet that is torn and no map: 5 before 17
   pub torn-first : stream.checkOf (headed 0xFD 20 ++ replicate 3 0) ≡ check.Refused (torn 0 1)
   pub no-map-first : stream.checkOf (headed 0xFD 20 ++ replicate 4 0) ≡ check.Refused (refusal 17 0)
+  -- a second map with the wrong form, at 60: 29 at its tag, 43 behind that, to check, seek and builder alike; as the first map, at 43
+  pub wrong-checked : stream.checkOf reformed ≡ check.Refused (refusal 29 103)
+  pub wrong-sought : stream.seekOf reformed 1 0 ≡ seek.Refused (refusal 29 103)
+  pub wrong-built : builder.buildAnswer (room 33) reformed ≡ build.Refused (refusal 29 103)
+  pub wrong-first : stream.checkOf (deformed ++ headed 0xFD 16 ++ headed 0xFB 16) ≡ check.Refused (refusal 29 43)
   -- seek: each field where it lies, and 16 for a field, or a track, that is not there; the check's refusal first
   pub field-0 : stream.seekOf S 1 0 ≡ seek.At 60
   pub field-1 : stream.seekOf S 1 1 ≡ seek.At 92

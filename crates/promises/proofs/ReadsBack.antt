@@ -49,7 +49,7 @@ reads-back =
       map-readers = map-read;
       locator = λ out at step ns n o g. let e = locator-written-is out at step ns _ o g in rw (e .1) (locator-trip.round-trip out at step ns n (sym (e .0)));
       locator-readers = λ out at step ns n o g. let e = locator-written-is out at step ns _ o g in rw (e .1) (readers out at step ns n _ (locator-trip.round-trip out at step ns n (sym (e .0))));
-      map-writes = λ out at text ms ts e h x o g. map-written-is out at text ms ts x o g .0 ∙ map-trip.accepted out at text ms ts 0 e h;
+      map-writes = λ out at text ms ts e w h x o g. map-written-is out at text ms ts x o g .0 ∙ map-trip.accepted out at text ms ts 0 e w h;
       locator-writes = λ out at step ns m h x o g. locator-written-is out at step ns x o g .0 ∙ wrote out at step ns m h .0;
       largest = largest;
       map-length = λ out at text ms ts n o g. largest .lengths out at text ms ts n (sym (map-written-is out at text ms ts _ o g .0));

@@ -1,0 +1,18 @@
+-- The readings of the wrong auxiliary form, computed.
+use mathlib.Core.Path.{refl}
+use Rattle.number.specs.Number.{be}
+use Rattle.text.specs.Text.{textOk}
+use Rattle.media_type.specs.MediaType.{knownType, mpegType, wrongForm}
+use Rattle.packet.specs.Packet.{headerAt, sizedAt, packetAt}
+use Rattle.map_items.specs.Items as items
+use Rattle.map_items.specs.Judge as judge
+use Rattle.map_items.specs.Find as find
+use Rattle.map_answer.specs.Answer as answer
+use Rattle.map_tracks.specs.Tracks as tracks
+use Rattle.map.specs.Map as map
+use Rattle.paper_readings.specs.Table.{Agree}
+use Rattle.paper_readings.specs.Forms.{forms}
+
+pub forms-agree : Agree forms
+unfolding forms headerAt sizedAt packetAt be knownType mpegType wrongForm textOk items.splitItems items.sectionOf items.itemsSize judge.formOf judge.isKnown judge.faultOf judge.countsAs judge.has judge.judgeItems judge.verdictOf find.find answer.valueOf answer.allowed answer.codeOf answer.isNull answer.materialOf answer.trackOf tracks.splitTracks tracks.tracksOf tracks.trackOver tracks.trackVerdict tracks.endVerdict tracks.judgeTracks tracks.tracksVerdict tracks.isListed tracks.listed tracks.recordOf tracks.kthOf map.afterMaterial map.layoutOf map.bothVerdict map.sectionsVerdict map.mapVerdict map.materialSays map.listedIn map.answerOf map.mapAt map.trackIn map.trackAt
+forms-agree = (refl, (refl, (refl, (refl, (refl, (refl, (refl, (refl, (refl, (refl, (refl, (refl, (refl, (refl, (refl, (refl, (refl, (refl, (refl, (refl, (refl, (refl, (refl, (refl, (refl, (refl, (refl, (refl, (refl, (refl, (refl, (refl, (refl, (refl, (refl, (refl, (refl, (refl, tt))))))))))))))))))))))))))))))))))))))
