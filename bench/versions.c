@@ -30,6 +30,11 @@ static inline struct reading yes(u64 value)
 /* Media types 3, 4, 7 to 18, 20 to 26. */
 static inline int known(u32 type) { return type < 27 && (0x7F7FF98u >> type & 1); }
 
+/* The bits of 4D and 4F among the tags seen; and that of the form which a track of this type may not have: 4D on types 11, 12, 20, 22 and 23, 4F on every
+ * other that is listed. */
+enum { FORM_4D = 1 << 0x0D, FORM_4F = 1 << 0x0F };
+static inline u32 wrong_form(u32 type) { return !known(type) ? 0 : 0xD01800u >> type & 1 ? FORM_4D : FORM_4F; }
+
 /* One byte at least, 00 last and nowhere else, none over 7F. */
 static int good_text(const u8 *v, u32 n)
 {
@@ -42,10 +47,24 @@ static int good_text(const u8 *v, u32 n)
     return 1;
 }
 
-/* The first fault of the items from at to end, or 0; its place. What material items say goes to `says`, if it is there. */
-static ALWAYS u32 walk_items(const u8 *p, u32 at, u32 end, int in_track, u32 *place, struct map_reading *says)
+/* The wrong form stands among the items of a track that have passed: 29 at its tag, unless the name is null. Few tracks come here. */
+static __attribute__((noinline)) u32 form_fault(const u8 *p, u32 at, u32 end, u32 wrong, u32 *place)
 {
-    u32 seen = 0;
+    u32 tag = wrong == FORM_4D ? 0x4D : 0x4F, null = 0;
+    for (; at < end; at += 2 + p[at + 1]) {
+        if (p[at] == 0x4C)
+            null = p[at + 1] == 1;
+        else if (p[at] == tag)
+            *place = at;
+    }
+    return null ? 0 : 29;
+}
+
+/* The first fault of the items from at to end, or 0; its place. What material items say goes to `says`, if it is there. In a track `wrong` is the form that it
+ * may not have, tested at its end. */
+static ALWAYS u32 walk_items(const u8 *p, u32 at, u32 end, int in_track, u32 wrong, u32 *place, struct map_reading *says)
+{
+    u32 seen = 0, from = at;
     while (at < end) {
         u32 tag, size, fixed = 0, text = 0;
         *place = at;
@@ -73,7 +92,7 @@ static ALWAYS u32 walk_items(const u8 *p, u32 at, u32 end, int in_track, u32 *pl
         if (fixed != 0 || text) {
             u32 bit = 1u << (tag - 0x40), bars = bit;
             if (tag == 0x4D || tag == 0x4F)
-                bars = 1u << 0x0D | 1u << 0x0F;
+                bars = FORM_4D | FORM_4F;
             if (seen & bars)
                 return 10;
             seen |= bit;
@@ -86,13 +105,13 @@ static ALWAYS u32 walk_items(const u8 *p, u32 at, u32 end, int in_track, u32 *pl
         }
         at += 2 + size;
     }
-    return 0;
+    return seen & wrong ? form_fault(p, from, end, wrong, place) : 0;
 }
 
 /* Both stay functions, and the first tests nothing for what it does not keep. */
-static u32 items_fault(const u8 *p, u32 at, u32 end, int in_track, u32 *place) { return walk_items(p, at, end, in_track, place, 0); }
+static u32 items_fault(const u8 *p, u32 at, u32 end, int in_track, u32 wrong, u32 *place) { return walk_items(p, at, end, in_track, wrong, place, 0); }
 
-static u32 material_fault(const u8 *p, u32 at, u32 end, u32 *place, struct map_reading *says) { return walk_items(p, at, end, 0, place, says); }
+static u32 material_fault(const u8 *p, u32 at, u32 end, u32 *place, struct map_reading *says) { return walk_items(p, at, end, 0, 0, place, says); }
 
 /* The first fault of a map packet, its place counted from the packet's start; by ID the types that it lists, or what it says. */
 static ALWAYS struct reading walk_map(const u8 *p, u32 len, u8 *types, struct map_reading *says)
@@ -108,7 +127,7 @@ static ALWAYS struct reading walk_map(const u8 *p, u32 len, u8 *types, struct ma
     if (len < 20 || len - 20 < big16(p + 18))
         return no(8, 18);
     a = 20 + big16(p + 18);
-    if ((f = says != 0 ? material_fault(p, 20, a, &place, says) : items_fault(p, 20, a, 0, &place)) != 0)
+    if ((f = says != 0 ? material_fault(p, 20, a, &place, says) : items_fault(p, 20, a, 0, 0, &place)) != 0)
         return no(f, place);
     if (len - a < 2 || len - a - 2 < big16(p + a))
         return no(8, a);
@@ -124,7 +143,7 @@ static ALWAYS struct reading walk_map(const u8 *p, u32 len, u8 *types, struct ma
             return no(8, b);
         if (ids >> (p[b + 1] - 0xC0) & 1)
             return no(10, b);
-        if ((f = items_fault(p, b + 4, b + 4 + size, 1, &place)) != 0)
+        if ((f = items_fault(p, b + 4, b + 4 + size, 1, wrong_form(p[b] - 0x80), &place)) != 0)
             return no(f, place);
         ids |= (u64)1 << (p[b + 1] - 0xC0);
         if (types != 0 && known(p[b] - 0x80))

@@ -200,7 +200,8 @@ def seeks(library, told, read):
 
 
 def why(data, refusal):
-    """What a refused stream has: too many packets without a map, or a text against one of its rules."""
+    """What a refused stream has: too many packets without a map, or a text against one of its rules. 29 is not among them, and would be left
+    unexplained: in these streams 4F stands on tracks of MPEG video alone, and 4D on every other."""
     if refusal.number == 20:
         return "hundred-packets"
     if refusal.number != 11:

@@ -250,6 +250,55 @@ fn twins(seed: u64, cases: u64) -> Vec<Tally> {
     vec![struck, set_in]
 }
 
+/// 02, §12: 29 is of one track's type, name and form. Striking and setting in neither bring it nor take it away, and each map names
+/// its own item; a null name takes it away, and so does a type that is not listed. The writer gives it where the reader would.
+fn forms_agree(seed: u64, cases: u64) -> Vec<Tally> {
+    let mut struck = Tally::new("29: as before where what is reserved is struck out");
+    let mut set_in = Tally::new("29: as before where an unknown item is set in");
+    let mut lifted = Tally::new("29: gone with null names, and with reserved types");
+    let mut writer = Tally::new("29: the writer gives it where the reader would");
+    let told = |model: &Model| match map(&model.bytes(), 0) {
+        Ok(_) => None,
+        Err(refusal) => Some((refusal.number, refusal.place)),
+    };
+    let as_made = |model: &Model| told(model) == model.wrong_form().map(|p| (29, p as u64));
+    for index in 0..cases {
+        let mut rng = Rng::new(seed ^ 0x4D4F, index);
+        let model = maps::formed(&mut rng).0;
+        let is_wrong = told(&model).is_some();
+        let what = || format!("form {index}: {}", hex(&model.bytes()));
+        let less = model.struck();
+        let same = as_made(&less) && told(&less).is_some() == is_wrong;
+        struck.check(as_made(&model) && same, what);
+        let more = with_unknown(&mut rng, &model);
+        let same = as_made(&more) && told(&more).is_some() == is_wrong;
+        set_in.check(same, what);
+        let (mut null, mut reserved) = (model.clone(), model.clone());
+        for track in &mut null.tracks {
+            maps::set_null_name(&mut rng, track);
+        }
+        for track in &mut reserved.tracks {
+            track.type_byte = 0x80 + rng.pick(&packets::RESERVED_TYPES);
+        }
+        let gone = told(&null).is_none() && told(&reserved).is_none();
+        lifted.check(gone, what);
+
+        let (mut input, _) = writers::good(&mut rng);
+        if rng.chance(1, 2) {
+            writers::misform(&mut rng, &mut input);
+        }
+        let (material, tracks) = input.words();
+        let done = write::write_map(&mut lent_room(60_000), 0, &input.text, &material, &tracks);
+        let (one, two) = (
+            done.err().map(|r| r.number),
+            map(&input.packet(), 0).err().map(|r| r.number),
+        );
+        let same = one == two && matches!(one, None | Some(29));
+        writer.check(same, || format!("input {index}: {one:?} {two:?}"));
+    }
+    vec![struck, set_in, lifted, writer]
+}
+
 /// An unknown item at any one boundary.
 fn with_unknown(rng: &mut Rng, model: &Model) -> Model {
     let mut model = model.clone();
@@ -345,9 +394,11 @@ fn streams_agree(seed: u64, cases: u64) -> Vec<Tally> {
     let mut headers = Tally::new("walker ends in the check's 1 to 5");
     for index in 0..cases {
         let mut rng = Rng::new(seed ^ 0x5EEC, index);
-        let bytes = match rng.below(6) {
+        let bytes = match rng.below(8) {
             0 | 1 => streams::damaged_bytes(&mut rng),
             2 => streams::torn_stream(&mut rng).1,
+            3 => streams::wrong_form_stream(&mut rng).1,
+            4 => streams::null_name_stream(&mut rng).bytes(),
             _ => streams::good(&mut rng).bytes(),
         };
         let mut room = vec![0; 65_536];
@@ -423,13 +474,18 @@ fn names_agree(seed: u64, cases: u64) -> Vec<Tally> {
     vec![names]
 }
 
-/// Each byte of M damaged in each way: the packet's reader and the check of a stream that begins with it refuse alike.
+/// Each byte of M, and of M as a track of MPEG video with its text, damaged in each way: the packet's reader and the check of a
+/// stream that begins with it refuse alike.
 fn damaged_bench() -> Vec<Tally> {
     let mut same = Tally::new("check refuses a damaged first map as the reader does");
     let rest = [packets::packet(0xFD, &[]), packets::packet(0xFB, &[])].concat();
-    for i in 0..M.len() {
+    let with_text = maps::m_with(0x8B, &[0x4F, 2, 0x41, 0]);
+    for (first, i) in [&M[..], &with_text]
+        .into_iter()
+        .flat_map(|map| (0..map.len()).map(move |i| (map, i)))
+    {
         for value in 0..=255 {
-            let mut bytes = M.to_vec();
+            let mut bytes = first.to_vec();
             bytes[i] = value;
             bytes.extend(&rest);
             let (one, two) = (map(&bytes, 0), stream::check(&bytes));
@@ -452,6 +508,7 @@ pub fn run(seed: u64, cases: u64) -> Vec<Tally> {
     all.extend(figures_mean(seed, cases));
     all.extend(sizes(seed, cases));
     all.extend(twins(seed, part));
+    all.extend(forms_agree(seed, part));
     all.extend(round_trips(seed, part));
     all.extend(streams_agree(seed, part));
     all.extend(names_agree(seed, part / 10 + 1));

@@ -155,10 +155,11 @@ fn a_65th_track_is_10_or_24() {
     }
 }
 
-/// Faults of all four kinds at once, and one after the other taken away.
+/// Faults of all five kinds at once, and one after the other taken away.
 #[test]
-fn the_order_is_24_11_10_13() {
+fn the_order_is_24_11_10_29_13() {
     let mut tracks = [all_full(), full(0), full(64)].concat();
+    tracks[23 * 40] = 10; // no MPEG video, and a 4F
     let mut head = material();
     head[..3].copy_from_slice(&[1, 254, 1]);
     assert_refused(24, write(0, 34_999, &head, &tracks));
@@ -167,6 +168,8 @@ fn the_order_is_24_11_10_13() {
     head = material();
     assert_refused(10, write(0, 34_999, &head, &tracks));
     tracks.truncate(23 * 64);
+    assert_refused(29, write(0, 34_999, &head, &tracks));
+    tracks[23 * 40] = 12;
     assert_refused(13, write(0, 34_999, &head, &tracks));
     assert_eq!(write(0, 35_000, &head, &tracks).0, Ok(35_000));
 }
@@ -198,7 +201,7 @@ fn a_size_is_counted_from_the_bytes() {
 
 /// Cases of a run that are made to be at the bounds: the room from the place on, and the size of what was written.
 fn at_bounds(seed: u64) -> Vec<(Option<u64>, Option<Size>)> {
-    let numbers = (0..12_000).filter(|index| kind_of(*index).0 == "map writer bounds");
+    let numbers = (0..24_000).filter(|index| kind_of(*index).0 == "map writer bounds");
     let requests = numbers.map(|index| case(seed, index).request);
     let seen = requests.map(|request| {
         let left = request.numbers[1].checked_sub(request.numbers[0]);

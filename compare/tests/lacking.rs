@@ -265,6 +265,7 @@ fn no_other_number_has_a_figure() {
         write::write_flt(&mut [], 0, 0, &[]).map(|_| ()),
         text("x\n\0"),
         text("\0"),
+        m(32, 0x4F),
     ];
     let mut numbers: Vec<u8> = Vec::new();
     for told in met {

@@ -1,4 +1,4 @@
-//! The plate has no 25 (F22), and a run tells of every refusal that is not on it.
+//! The plate has no 25 (F22) and no 28, and a run tells of every refusal that is not on it.
 
 use compare::generate::case;
 use compare::reference::plate::PLATE;
@@ -6,8 +6,9 @@ use compare::request::answer;
 use compare::table::{agree, off_plate, Table};
 
 #[test]
-fn the_plate_has_no_25() {
-    let numbers: Vec<u8> = (1..=27).filter(|number| *number != 25).collect();
+fn the_plate_has_no_25_and_no_28() {
+    let used = |number: &u8| !matches!(number, 25 | 28);
+    let numbers: Vec<u8> = (1..=29).filter(used).collect();
     assert_eq!(PLATE[..], numbers);
 }
 

@@ -418,6 +418,35 @@ fn d14_null_names() {
     assert_eq!((nameless.version, nameless.binary), (Some(1), part(28, 8)));
 }
 
+/// 02, §12: its readings, byte by byte.
+#[test]
+fn wrong_forms() {
+    // M with `4F 02 41 00` behind the rate, 48 bytes
+    let mut text = [&M[..43], &[0x4F, 2, 0x41, 0], &[0]].concat();
+    assert_eq!(text.len(), 48);
+    state_length(&mut text, 48);
+    (text[27], text[31]) = (0x13, 0x0F);
+    assert_eq!(no(map(&text, 0)), (29, 43));
+    // with the name `4C 01 00`: two bytes less of it, and three zeros behind
+    let mut null = [&text[..32], &[0x4C, 1, 0], &text[37..47], &[0; 3]].concat();
+    (null[27], null[31]) = (0x11, 0x0D);
+    let read = map(&null, 0).unwrap().tracks[0];
+    assert_eq!(
+        (read.text, read.name, read.rate),
+        (None, part(34, 1), Some(-2))
+    );
+    // with type byte 93: accepted, and not listed
+    text[28] = 0x93;
+    assert_eq!(map(&text, 0).map(|map| map.tracks), Ok(vec![]));
+    // an MPEG type and a 4D of eight bytes behind the rate
+    let mut binary = [&M[..43], &[0x4D, 8], &[0; 8], &[0; 3]].concat();
+    state_length(&mut binary, 56);
+    (binary[27], binary[28], binary[31]) = (0x19, 0x8B, 0x15);
+    assert_eq!(no(map(&binary, 0)), (29, 43));
+    binary[28] = 0x8A;
+    assert_eq!(map(&binary, 0).unwrap().tracks[0].binary, part(45, 8));
+}
+
 #[test]
 fn d15_type_and_id_bytes() {
     let last = map_packet(&[], &[track(0xFF, 0xFF, &[])]);
@@ -875,12 +904,16 @@ fn d39_texts_of_writers() {
     assert_eq!(tried(&text, &name([0, u64::MAX, u64::MAX])), 0);
     // an empty 4F beside a name that is not null
     assert_eq!(
-        tried(&text, &row(10, 1, &[(0, [1, 0, 1]), (3, [1, 0, 0])])),
+        tried(&text, &row(11, 1, &[(0, [1, 0, 1]), (3, [1, 0, 0])])),
         0
     );
-    for slot in [(1, [1, 0, 8]), (2, [1, 0, 0]), (3, [1, 0, 0])] {
-        assert_eq!(tried(&text, &row(10, 1, &[(0, [1, 0, 0]), slot])), 24);
-        assert_eq!(tried(&text, &row(10, 1, &[slot])), 0); // R6
+    for (kind, slot) in [
+        (10, (1, [1, 0, 8])),
+        (10, (2, [1, 0, 0])),
+        (11, (3, [1, 0, 0])),
+    ] {
+        assert_eq!(tried(&text, &row(kind, 1, &[(0, [1, 0, 0]), slot])), 24);
+        assert_eq!(tried(&text, &row(kind, 1, &[slot])), 0); // R6
     }
     let both = [(1, [1, 0, 8]), (3, [1, 0, 0])];
     assert_eq!(tried(&text, &row(10, 1, &both)), 10);

@@ -88,12 +88,11 @@ static void close_word(size_t word)
     size = end;
 }
 
-static void text_item(unsigned tag)
+static void text_item(unsigned tag, uint64_t len)
 {
-    unsigned len = (unsigned)under(6), i;
     put(tag);
-    put(len + 1);
-    for (i = 0; i < len; i++)
+    put((unsigned)len + 1);
+    while (len-- > 0)
         put(1 + (unsigned)under(0x7F));
     put(0);
 }
@@ -114,25 +113,43 @@ static void unknown_item(unsigned tag)
         put((unsigned)under(256));
 }
 
-static unsigned media_type(void)
+/* The known media types, those of MPEG video first. */
+static const unsigned known[] = {11, 12, 20, 22, 23, 3, 4, 7, 8, 9, 10, 13, 14, 15, 16, 17, 18, 21, 24, 25, 26};
+
+enum { MPEG = 5, KNOWN = sizeof known / sizeof known[0] };
+
+static unsigned media_type(void) { return chance(85) ? known[under(KNOWN)] : (unsigned)under(128); }
+
+/* Auxiliary information: a text for MPEG video, eight bytes for every other known type, and now and then the wrong one; either of them where it is free. */
+static void auxiliary_item(unsigned type, int is_free)
 {
-    static const unsigned known[] = {3, 4, 7, 8, 9, 10, 11, 12, 13, 14, 15, 16, 17, 18, 20, 21, 22, 23, 24, 25, 26};
-    return chance(85) ? known[under(sizeof known / sizeof known[0])] : (unsigned)under(128);
+    unsigned i;
+    int text;
+    for (i = 0; i < KNOWN && known[i] != type; i++)
+        ;
+    text = i < MPEG;
+    if (chance(is_free || i == KNOWN ? 50 : 4))
+        text = !text;
+    if (text) {
+        text_item(0x4F, under(6));
+    } else {
+        put(0x4D);
+        put(8);
+        put_big(draw(), 8);
+    }
 }
 
-static void track_items(void)
+/* The name stands before the auxiliary information or behind it. Beside a null name the form is free. */
+static void track_items(unsigned type)
 {
-    if (chance(60))
-        text_item(0x4C);
-    if (chance(40)) {
-        if (chance(50)) {
-            put(0x4D);
-            put(8);
-            put_big(draw(), 8);
-        } else {
-            text_item(0x4F);
-        }
-    }
+    int named = chance(60), behind = chance(30);
+    uint64_t len = under(6);
+    if (named && !behind)
+        text_item(0x4C, len);
+    if (chance(40))
+        auxiliary_item(type, named && len == 0);
+    if (named && behind)
+        text_item(0x4C, len);
     if (chance(40))
         number_item(0x4E, draw());
     if (chance(60))
@@ -156,7 +173,7 @@ static void map_packet(void)
     word = size;
     put_big(0, 2);
     if (chance(60))
-        text_item(0x40);
+        text_item(0x40, under(6));
     for (i = 0x41; i <= 0x45; i++)
         if (chance(50))
             number_item(i, draw());
@@ -174,7 +191,7 @@ static void map_packet(void)
         put(0xC0 + ids[tracks]);
         length = size;
         put_big(0, 2);
-        track_items();
+        track_items(types[tracks]);
         close_word(length);
         tracks++;
     }
@@ -224,7 +241,7 @@ static void bare_packet(unsigned kind)
     finish(at);
 }
 
-/* A stream in order. Now and then a media packet asks for what the map does not list, a track has a tag twice, a locator table has a bad count or step, or a UMF or a map is wanting. */
+/* A stream in order. Now and then a media packet asks for what the map does not list, a track has a tag twice or the wrong auxiliary form, a locator table has a bad count or step, or a UMF or a map is wanting. */
 static void make_stream(void)
 {
     unsigned n = (unsigned)(chance(97) ? under(14) : 88 + under(20)), i;

@@ -197,6 +197,29 @@ static struct fault items_fault(const uint8_t *p, uint64_t from, uint64_t to, in
     return fine;
 }
 
+/* Of items without a fault, from place `from` up to place `to`: the place of the one with this tag, or 0. */
+static uint64_t item_at(const uint8_t *p, uint64_t from, uint64_t to, unsigned tag)
+{
+    uint64_t at;
+    for (at = from; at < to; at += 2 + (uint64_t)p[at + 1])
+        if (p[at] == tag)
+            return at;
+    return 0;
+}
+
+/* The end of a track: where it is listed, 4D is wrong on MPEG video and 4F on every other type. A null name, a lone 00, lifts that; no name does not. */
+static struct fault form_fault(const uint8_t *p, uint64_t from, uint64_t to, unsigned type)
+{
+    int mpeg = type == 11 || type == 12 || type == 20 || type == 22 || type == 23;
+    uint64_t name = item_at(p, from, to, 0x4C);
+    uint64_t wrong = item_at(p, from, to, mpeg ? 0x4D : 0x4F);
+    if (!known_media_type(type) || wrong == 0)
+        return fine;
+    if (name != 0 && p[name + 1] == 1)
+        return fine;
+    return fault(29, wrong);
+}
+
 /* The tracks from place `from` up to place `to`. */
 static struct fault tracks_fault(const uint8_t *p, uint64_t from, uint64_t to)
 {
@@ -216,6 +239,8 @@ static struct fault tracks_fault(const uint8_t *p, uint64_t from, uint64_t to)
             return fault(10, at);
         ids[p[at + 1] - 0xC0] = 1;
         f = items_fault(p, at + 4, at + 4 + len, 1);
+        if (f.number == 0)
+            f = form_fault(p, at + 4, at + 4 + len, p[at] - 0x80U);
         if (f.number != 0)
             return f;
         at += 4 + len;

@@ -1,7 +1,9 @@
 //! Seek books, built and lent.
 
 use super::packets::{damage, edge_id, refused, torn, KNOWN_TYPES};
-use super::streams::{damaged_bytes, good, question, torn_stream, Stream};
+use super::streams::{
+    damaged_bytes, good, null_name_stream, question, torn_stream, wrong_form_stream, Stream,
+};
 use super::Made;
 use crate::request::{hex, lent_room, Request, BUILD, LOOKUP};
 use crate::rng::Rng;
@@ -25,9 +27,8 @@ pub fn book_of(stream: &Stream) -> Vec<u8> {
 }
 
 /// Rooms at, under and over the size, and zero.
-pub fn build(rng: &mut Rng) -> Made {
-    let stream = good(rng);
-    let book = book_of(&stream);
+fn build_of(rng: &mut Rng, stream: &Stream) -> Made {
+    let book = book_of(stream);
     let room = match rng.below(6) {
         0 => 0,
         1 => book.len().saturating_sub(1),
@@ -48,6 +49,11 @@ pub fn build(rng: &mut Rng) -> Made {
     )
 }
 
+pub fn build(rng: &mut Rng) -> Made {
+    let stream = good(rng);
+    build_of(rng, &stream)
+}
+
 pub fn build_damage(rng: &mut Rng) -> Made {
     let bytes = damaged_bytes(rng);
     let room = rng.below(200) as u64;
@@ -61,6 +67,18 @@ pub fn build_torn(rng: &mut Rng) -> Made {
     let lent = hex(&lent_room(room));
     let claim = torn(stream.offset(i), lacking).map(|claim| format!("{claim} {lent}"));
     (Request::new(BUILD, &[room], &[&bytes]), claim)
+}
+
+/// A map of the stream has a wrong form, with room for the book or without.
+pub fn build_form(rng: &mut Rng) -> Made {
+    if rng.chance(1, 4) {
+        let stream = null_name_stream(rng);
+        return build_of(rng, &stream);
+    }
+    let (stream, bytes, place) = wrong_form_stream(rng);
+    let room = rng.pick(&[0, 1, 15, book_of(&stream).len()]) as u64;
+    let claim = format!("refused 29 {place} {}", hex(&lent_room(room)));
+    (Request::new(BUILD, &[room], &[&bytes]), Some(claim))
 }
 
 struct Entry {

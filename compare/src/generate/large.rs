@@ -24,14 +24,14 @@ fn filling(mut n: usize) -> Vec<Item> {
     items
 }
 
-/// A map packet of 65,536 bytes, most of it in one section or one track.
+/// A map packet of 65,536 bytes, most of it in one section or one track; at times its last item is the wrong form.
 fn map(rng: &mut Rng) -> Made {
     let mut model = Model::empty();
-    let name = Item::new(0x4C, b"A1\0");
+    let last = Item::new(rng.pick(&[0x4C, 0x4C, 0x4F]), b"A1\0");
     model.tracks.push(Track {
         type_byte: 0x8A,
         id_byte: 0xC1,
-        items: vec![name],
+        items: vec![last],
         overhang: 0,
     });
     let spare = MOST - (16 + 2 + 2 + 2 + 4 + 5);
@@ -46,7 +46,7 @@ fn map(rng: &mut Rng) -> Made {
     assert_eq!(bytes.len(), MOST);
     let n = rng.below(3);
     let request = Request::new(MAP, &[0, n as u64], &[&bytes]);
-    (request, Some(model.line(n)))
+    (request, Some(model.line_or_29(n)))
 }
 
 fn stream(rng: &mut Rng) -> Vec<u8> {
@@ -157,22 +157,22 @@ pub fn large(rng: &mut Rng) -> Made {
             }
         }
         7 => {
-            // 356 tracks; or 64 tracks as long as they can be
+            // 356 tracks; or 64 tracks as long as they can be, all of MPEG video or the last one not
             let text = vec![0x41; 254];
-            let full = rng.chance(1, 2);
+            let (n, last, claim) = match rng.below(4) {
+                0 | 1 => (356, 10, refused(10, 0)),
+                2 => (64, 10, refused(29, 0)),
+                _ => (64, 23, Some("length 35000".to_string())),
+            };
             let mut tracks = Vec::new();
-            for id in 0..if full { 64 } else { 356 } {
-                tracks.extend([10, id % 64, 1, 0, 254, 0, 0, 0, 1, 7, 0, 1, 0, 254]);
+            for id in 0..n {
+                let kind = if id + 1 == n { last } else { 11 };
+                tracks.extend([kind, id % 64, 1, 0, 254, 0, 0, 0, 1, 7, 0, 1, 0, 254]);
                 tracks.extend([1, 8, 0, 1, 6, 0, 1, 2, 0]);
             }
             let mut material = vec![1, 0, 254];
             material.extend([1, 9, 0].repeat(5));
             let strings = [word_bytes(&material), word_bytes(&tracks)];
-            let claim = if full {
-                Some("length 35000".to_string())
-            } else {
-                refused(10, 0)
-            };
             let request = Request::new(
                 WRITE_MAP,
                 &[5, MOST_BYTES],

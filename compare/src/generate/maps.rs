@@ -1,8 +1,8 @@
 //! Maps: a model that is put together with true lengths, its answer told from the model, and faults with their places.
 
 use super::packets::{
-    damage, lend, lend_torn, packet, refused, state_length, tear, torn, true_length, KNOWN_TYPES,
-    RESERVED_TYPES,
+    damage, known_type, lend, lend_torn, packet, refused, state_length, tear, torn, true_length,
+    KNOWN_TYPES, MPEG_TYPES, RESERVED_TYPES,
 };
 use super::Made;
 use crate::request::{hex, Request, MAP, NAME, NAME_OF_TWO};
@@ -56,6 +56,29 @@ impl Track {
 
     pub fn listed(&self) -> bool {
         self.type_byte >= 0x80 && KNOWN_TYPES.contains(&self.kind())
+    }
+
+    fn null_name(&self) -> bool {
+        let null = |item: &Item| item.tag == 0x4C && item.value == [0];
+        self.items.iter().any(null)
+    }
+
+    /// Which item has the form that may not stand in this track, its items being good by themselves (02, §12).
+    pub fn wrong_item(&self) -> Option<usize> {
+        let forms = forms(self.kind(), self.null_name());
+        let wrong = |item: &Item| matches!(item.tag, 0x4D | 0x4F) && !forms.contains(&item.tag);
+        self.items.iter().position(wrong)
+    }
+}
+
+/// The auxiliary forms of which one may stand in a track of this type; either, where the track is not listed or its name is null.
+fn forms(kind: u8, null_name: bool) -> &'static [u8] {
+    if null_name || !KNOWN_TYPES.contains(&kind) {
+        &[0x4D, 0x4F]
+    } else if MPEG_TYPES.contains(&kind) {
+        &[0x4F]
+    } else {
+        &[0x4D]
     }
 }
 
@@ -143,6 +166,20 @@ impl Model {
 
     pub fn count(&self) -> usize {
         self.tracks.iter().filter(|track| track.listed()).count()
+    }
+
+    /// The place of the first wrong form, of a model that is valid but for those.
+    pub fn wrong_form(&self) -> Option<usize> {
+        let i = self.tracks.iter().position(|t| t.wrong_item().is_some())?;
+        Some(self.encode().1.tracks[i].1[self.tracks[i].wrong_item()?])
+    }
+
+    /// The line of a model that is valid, wrong forms aside, with n lent records: 29 comes before 13.
+    pub fn line_or_29(&self, n: usize) -> String {
+        match self.wrong_form() {
+            Some(place) => format!("refused 29 {place}") + &" kept".repeat(n),
+            None => self.line(n),
+        }
     }
 
     /// The line of a valid model with n lent records, told from the model alone.
@@ -316,18 +353,34 @@ fn spread_unknown(rng: &mut Rng, items: &mut Vec<Item>, tags: &[u8]) {
     }
 }
 
-/// The items of a track, each known tag at most once, in any order.
-fn track_items(rng: &mut Rng, newer: bool) -> Vec<Item> {
+/// Auxiliary information: 4D or 4F.
+fn form(rng: &mut Rng, tag: u8) -> Item {
+    if tag == 0x4D {
+        Item::new(0x4D, &rng.bytes(8))
+    } else {
+        Item::new(0x4F, &text(rng))
+    }
+}
+
+/// At times a name, at times auxiliary information in a form that may stand beside it.
+pub fn name_and_form(rng: &mut Rng, kind: u8, named: usize, formed: usize) -> Vec<Item> {
     let mut items = Vec::new();
-    if rng.chance(3, 4) {
+    let mut null = false;
+    if rng.chance(named, 4) {
         let name = if rng.chance(1, 5) { vec![0] } else { text(rng) };
+        null = name == [0];
         items.push(Item::new(0x4C, &name));
     }
-    match rng.below(4) {
-        0 => items.push(Item::new(0x4D, &rng.bytes(8))),
-        1 => items.push(Item::new(0x4F, &text(rng))),
-        _ => {}
+    if rng.chance(formed, 4) {
+        let tag = rng.pick(forms(kind, null));
+        items.push(form(rng, tag));
     }
+    items
+}
+
+/// The items of a track of this type, each known tag at most once, in any order.
+fn track_items(rng: &mut Rng, kind: u8, newer: bool) -> Vec<Item> {
+    let mut items = name_and_form(rng, kind, 3, 2);
     if rng.chance(1, 2) {
         items.push(Item::new(0x4E, &rng.edge32().to_be_bytes()));
     }
@@ -356,12 +409,12 @@ fn track(rng: &mut Rng, id: u8, newer: bool) -> Track {
     let kind = if newer && rng.chance(1, 4) {
         rng.pick(&RESERVED_TYPES)
     } else {
-        rng.pick(&KNOWN_TYPES)
+        known_type(rng)
     };
     Track {
         type_byte: 0x80 + kind,
         id_byte: id.wrapping_add(0xC0),
-        items: track_items(rng, newer),
+        items: track_items(rng, kind, newer),
         overhang: 0,
     }
 }
@@ -451,12 +504,17 @@ pub fn map_records(rng: &mut Rng) -> Made {
     (ask(rng, &model.bytes(), n), Some(model.line(n)))
 }
 
+/// A good track of an ID that no track has, if there is one.
+fn fresh_track(rng: &mut Rng, model: &Model) -> Track {
+    let used: Vec<u8> = model.tracks.iter().map(Track::id).collect();
+    let free = (0..64).find(|id| !used.contains(id)).unwrap_or(0);
+    track(rng, free, true)
+}
+
 /// A track to work on: one that is there, or a new one.
 fn some_track(rng: &mut Rng, model: &mut Model) -> usize {
     if model.tracks.is_empty() || (model.tracks.len() < 12 && rng.chance(1, 4)) {
-        let used: Vec<u8> = model.tracks.iter().map(Track::id).collect();
-        let free = (0..64).find(|id| !used.contains(id)).unwrap_or(0);
-        let fresh = track(rng, free, true);
+        let fresh = fresh_track(rng, model);
         model.tracks.push(fresh);
         return model.tracks.len() - 1;
     }
@@ -474,11 +532,37 @@ fn missized(rng: &mut Rng, tag: u8, size: usize) -> Item {
     Item::new(tag, &rng.bytes(n))
 }
 
+/// Sets the form that its type may not have into a track, which gets a known type if it has none, and loses a null name; gives
+/// the item's number.
+pub fn set_wrong_form(rng: &mut Rng, track: &mut Track) -> usize {
+    if !track.listed() {
+        track.type_byte = 0x80 + known_type(rng);
+    }
+    if track.null_name() {
+        track.items.retain(|item| item.tag != 0x4C);
+    }
+    track.items.retain(|item| !matches!(item.tag, 0x4D | 0x4F));
+    let wrong = match forms(track.kind(), false) {
+        [0x4D] => 0x4F,
+        _ => 0x4D,
+    };
+    let at = rng.below(track.items.len() + 1);
+    track.items.insert(at, form(rng, wrong));
+    at
+}
+
+/// Gives a track a null name, anywhere, in the place of its own: either form may stand beside it.
+pub fn set_null_name(rng: &mut Rng, track: &mut Track) {
+    track.items.retain(|item| item.tag != 0x4C);
+    let at = rng.below(track.items.len() + 1);
+    track.items.insert(at, Item::new(0x4C, &[0]));
+}
+
 /// One fault in a map that is good up to it; the claim is its number and place.
 fn one_fault(rng: &mut Rng, model: &mut Model) -> (Vec<u8>, Option<String>) {
     let told =
         |model: &Model, number: u8, place: usize| (model.bytes(), refused(number, place as u64));
-    match rng.below(17) {
+    match rng.below(19) {
         // a known tag twice, in the material section
         0 => {
             let tag = 0x40 + rng.below(6) as u8;
@@ -647,6 +731,13 @@ fn one_fault(rng: &mut Rng, model: &mut Model) -> (Vec<u8>, Option<String>) {
             let place = model.encode().1.tracks[last].0;
             told(model, 8, place)
         }
+        // the wrong form
+        16 | 17 => {
+            let i = some_track(rng, model);
+            let j = set_wrong_form(rng, &mut model.tracks[i]);
+            let place = model.encode().1.tracks[i].1[j];
+            told(model, 29, place)
+        }
         // the last item passes its track or section, or is cut to its tag
         _ => {
             let mut item = unknown(rng, &[0x40, 0x41, 0x4C, 0x4D, 0x4E, 0x50, 0x7E]);
@@ -703,6 +794,17 @@ const TRACK_TAGS: [(u8, usize); 7] = [
     (0x52, 4),
 ];
 
+/// Sets items in anywhere, in this order; gives where they stand.
+fn set_in(rng: &mut Rng, items: &mut Vec<Item>, more: Vec<Item>) -> Vec<usize> {
+    let mut at: Vec<usize> = more.iter().map(|_| rng.below(items.len() + 1)).collect();
+    at.sort_unstable();
+    for (k, item) in more.into_iter().enumerate() {
+        at[k] += k;
+        items.insert(at[k], item);
+    }
+    at
+}
+
 /// A tag twice (or 4D with 4F) and a wrong size or bad text in one section: at one item, or the one before the other.
 /// The first in walk order counts, and at one item 9 and 11 come before 10.
 fn beside_a_repeated_tag(rng: &mut Rng, model: &mut Model) -> (u8, usize) {
@@ -733,7 +835,7 @@ fn beside_a_repeated_tag(rng: &mut Rng, model: &mut Model) -> (u8, usize) {
         !matches!(item.tag, 0x4D | 0x4F) && item.tag != first.0 && item.tag != other.0
     });
     // the items to be set in, in this order; which of them is refused, and with what
-    let (set_in, which, number) = match rng.below(5) {
+    let (more, which, number) = match rng.below(5) {
         0 => {
             let (item, number) = bad(rng, again);
             (vec![good(rng, first), item], 1, number)
@@ -755,12 +857,7 @@ fn beside_a_repeated_tag(rng: &mut Rng, model: &mut Model) -> (u8, usize) {
             (vec![item, good(rng, first), good(rng, again)], 0, number)
         }
     };
-    let mut places: Vec<usize> = set_in.iter().map(|_| rng.below(items.len() + 1)).collect();
-    places.sort_unstable();
-    for (k, item) in set_in.into_iter().enumerate() {
-        items.insert(places[k] + k, item);
-    }
-    let refused = places[which] + which;
+    let refused = set_in(rng, items, more)[which];
     let layout = model.encode().1;
     match track {
         Some(i) => (number, layout.tracks[i].1[refused]),
@@ -768,12 +865,105 @@ fn beside_a_repeated_tag(rng: &mut Rng, model: &mut Model) -> (u8, usize) {
     }
 }
 
-/// Two faults: at one place, by the order 8, 12, 8, 10 of a header and 8, 9, 11, 10 of an item; or in one section.
+/// Sets one item into a track that is refused: of another size, a bad text, or a tag once more. Gives its number and the fault's.
+fn set_bad_item(rng: &mut Rng, items: &mut Vec<Item>) -> (usize, u8) {
+    let known: Vec<usize> = (0..items.len())
+        .filter(|k| matches!(items[*k].tag, 0x4C..=0x52))
+        .collect();
+    let (item, number, from) = match rng.below(3) {
+        0 => {
+            let (tag, size) = rng.pick(&FIXED_IN_TRACK);
+            (missized(rng, tag, size), 9, 0)
+        }
+        1 if !known.is_empty() => {
+            let first = rng.pick(&known);
+            let again = match items[first].tag {
+                0x4D | 0x4F => {
+                    let tag = rng.pick(&[0x4D, 0x4F]);
+                    form(rng, tag)
+                }
+                0x4C => Item::new(0x4C, &text(rng)),
+                tag => Item::new(tag, &rng.bytes(4)),
+            };
+            (again, 10, first + 1)
+        }
+        _ => {
+            let tag = rng.pick(&[0x4C, 0x4F]);
+            (Item::new(tag, &bad_text(rng)), 11, 0)
+        }
+    };
+    let at = from + rng.below(items.len() - from + 1);
+    items.insert(at, item);
+    (at, number)
+}
+
+/// A wrong form and one fault more. A fault before it or in its own track comes first; what stands behind the track comes later.
+fn beside_a_wrong_form(rng: &mut Rng, model: &mut Model) -> (u8, usize) {
+    model.tracks.truncate(12);
+    let i = some_track(rng, model);
+    let wrong = set_wrong_form(rng, &mut model.tracks[i]);
+    let at = |model: &Model, i: usize, j: usize| model.encode().1.tracks[i].1[j];
+    match rng.below(8) {
+        // an item of its own track, before it or behind
+        0 | 1 => {
+            let (j, number) = set_bad_item(rng, &mut model.tracks[i].items);
+            return (number, at(model, i, j));
+        }
+        // its track's last item passes the track
+        2 => {
+            let mut last = unknown(rng, &[0x4C, 0x4D, 0x4F, 0x7E]);
+            last.value.truncate(200);
+            last.length = last.value.len() as u8 + 1;
+            last.lone = rng.chance(1, 3);
+            let items = &mut model.tracks[i].items;
+            items.push(last);
+            let j = items.len() - 1;
+            return (8, at(model, i, j));
+        }
+        // an item of a track before it
+        3 => {
+            let mut first = fresh_track(rng, model);
+            let (j, number) = set_bad_item(rng, &mut first.items);
+            model.tracks.insert(0, first);
+            return (number, at(model, 0, j));
+        }
+        // a track behind it with a wrong form too, or with a bad item
+        4 => {
+            let mut next = fresh_track(rng, model);
+            if rng.chance(2, 3) {
+                set_wrong_form(rng, &mut next);
+            } else {
+                set_bad_item(rng, &mut next.items);
+            }
+            model.tracks.insert(i + 1, next);
+        }
+        // a header behind it: 12, 8 for overhang, 10
+        5 | 6 => {
+            let mut next = fresh_track(rng, model);
+            match rng.below(4) {
+                0 => next.type_byte &= 0x7F,
+                1 => next.id_byte &= 0xBF,
+                2 => next.overhang = 0x8000,
+                _ => next.id_byte = model.tracks[i].id_byte,
+            }
+            model.tracks.insert(i + 1, next);
+        }
+        // bytes behind it that are no header
+        _ => {
+            model.tracks.truncate(i + 1);
+            let n = 1 + rng.below(3);
+            model.section_tail = rng.bytes(n);
+        }
+    }
+    (29, at(model, i, wrong))
+}
+
+/// Two faults: at one place, by the order 8, 12, 8, 10 of a header and 8, 9, 11, 10 of an item; or in one section; or a wrong form and one fault more.
 pub fn map_pair(rng: &mut Rng) -> Made {
     let mut model = valid(rng, true);
     let i = some_track(rng, &mut model);
     let last = model.tracks.len() - 1;
-    let (number, place) = match rng.below(10) {
+    let (number, place) = match rng.below(14) {
         // 12 before overhang
         0 => {
             model.tracks[last].type_byte &= 0x7F;
@@ -826,11 +1016,55 @@ pub fn map_pair(rng: &mut Rng) -> Made {
             items.push(item);
             (8, *model.encode().1.tracks[i].1.last().unwrap())
         }
-        _ => beside_a_repeated_tag(rng, &mut model),
+        6..=9 => beside_a_repeated_tag(rng, &mut model),
+        _ => beside_a_wrong_form(rng, &mut model),
     };
     let n = rng.below(3);
     let claim = refused(number, place as u64).map(|claim| claim + &" kept".repeat(n));
     (ask(rng, &model.bytes(), n), claim)
+}
+
+/// MPEG video, other known types, and some that are not listed.
+const FORM_TYPES: [u8; 14] = [11, 12, 20, 22, 23, 10, 13, 21, 24, 19, 0, 1, 27, 127];
+
+/// A map one track of which has either form, with a text for a name, a null name or none, before it or behind; and that track.
+pub fn formed(rng: &mut Rng) -> (Model, usize) {
+    let mut model = valid(rng, true);
+    let i = some_track(rng, &mut model);
+    let track = &mut model.tracks[i];
+    track.type_byte = 0x80 + rng.pick(&FORM_TYPES);
+    if rng.chance(1, 3) {
+        track.type_byte = 0x80 + rng.pick(&KNOWN_TYPES);
+    }
+    track
+        .items
+        .retain(|item| !matches!(item.tag, 0x4C | 0x4D | 0x4F));
+    let tag = rng.pick(&[0x4D, 0x4F]);
+    let mut more = vec![form(rng, tag)];
+    match rng.below(4) {
+        0 => {}
+        1 => more.push(Item::new(0x4C, &[0])),
+        _ => more.push(Item::new(0x4C, &text(rng))),
+    }
+    rng.shuffle(&mut more);
+    set_in(rng, &mut track.items, more);
+    // a null name of the material, or its tag there, is no matter of a track
+    if rng.chance(1, 6) {
+        let tag = rng.pick(&[0x40, 0x4C]);
+        model.material.retain(|item| item.tag != tag);
+        model.material.push(Item::new(tag, &[0]));
+    }
+    (model, i)
+}
+
+pub fn map_form(rng: &mut Rng) -> Made {
+    let (model, _) = formed(rng);
+    let n = if rng.chance(1, 4) {
+        rng.below(3)
+    } else {
+        (model.count() + rng.below(3)).min(80)
+    };
+    (ask(rng, &model.bytes(), n), Some(model.line_or_29(n)))
 }
 
 /// Some changes of the model, one on the other, and at times of the bytes.
@@ -882,11 +1116,27 @@ pub const M: [u8; 44] = [
     0x4C, 0x03, 0x41, 0x31, 0x00, 0x50, 0x04, 0xFF, 0xFF, 0xFF, 0xFE, 0x00,
 ];
 
-/// Any one byte of M set to any value; at times two.
+/// M with this type byte and one item more behind its rate, in true lengths.
+pub fn m_with(type_byte: u8, item: &[u8]) -> Vec<u8> {
+    let mut bytes = [&M[..43], item].concat();
+    for length in [27, 31] {
+        bytes[length] += item.len() as u8;
+    }
+    bytes[28] = type_byte;
+    true_length(&mut bytes);
+    bytes
+}
+
+/// Any one byte of M, or of M with auxiliary information in either form, set to any value; at times two.
 pub fn map_bench(rng: &mut Rng) -> Made {
-    let mut bytes = M.to_vec();
+    let type_byte = rng.pick(&[0x8A, 0x8B, 0x93]);
+    let mut bytes = match rng.below(6) {
+        0 => m_with(type_byte, &[0x4F, 2, 0x41, 0]),
+        1 => m_with(type_byte, &[0x4D, 8, 0, 0, 0, 0, 0, 0, 0, 0]),
+        _ => M.to_vec(),
+    };
     for _ in 0..1 + rng.below(2) {
-        let i = rng.below(44);
+        let i = rng.below(bytes.len());
         bytes[i] = rng.byte();
     }
     let n = rng.below(3) as u64;
@@ -994,6 +1244,28 @@ pub fn name_asked(rng: &mut Rng) -> Made {
     (Request::new(NAME, &[at, id], &[&lent]), claim)
 }
 
+/// What a name is refused with where a map has a wrong form.
+fn refused_name(model: &Model) -> Option<String> {
+    let place = model.wrong_form()?;
+    Some(format!("refused 29 {place} x"))
+}
+
+pub fn name_form(rng: &mut Rng) -> Made {
+    let (model, i) = formed(rng);
+    let asked = if rng.chance(3, 4) {
+        u64::from(model.tracks[i].id())
+    } else {
+        id(rng, &model)
+    };
+    let (at, lent) = lend(rng, &model.bytes());
+    let found = || match name_in(&model, asked) {
+        Some(found) => part_words("name", &found),
+        None => Some("refused 16 0 x".to_string()),
+    };
+    let claim = refused_name(&model).or_else(found);
+    (Request::new(NAME, &[at, asked], &[&lent]), claim)
+}
+
 pub fn name_damaged(rng: &mut Rng) -> Made {
     let mut model = valid(rng, true);
     let id = id(rng, &model);
@@ -1041,19 +1313,43 @@ fn two(rng: &mut Rng) -> (Model, Model) {
             }
             _ => {}
         }
+        if let Some(wrong) = track.wrong_item() {
+            let right = forms(track.kind(), false)[0];
+            track.items[wrong] = form(rng, right);
+        }
     }
     (opening, closing)
+}
+
+/// The name that two valid maps have for an ID: the closing one's first.
+fn of_two(opening: &Model, closing: &Model, id: u64) -> Option<String> {
+    match (name_in(closing, id), name_in(opening, id)) {
+        (Some(found), _) => part_words("closing", &found),
+        (None, Some(found)) => part_words("opening", &found),
+        _ => Some("refused 16 0 x".to_string()),
+    }
 }
 
 pub fn two_maps(rng: &mut Rng) -> Made {
     let (opening, closing) = two(rng);
     let asked = if rng.chance(1, 2) { &opening } else { &closing };
     let id = id(rng, asked);
-    let claim = match (name_in(&closing, id), name_in(&opening, id)) {
-        (Some(found), _) => part_words("closing", &found),
-        (None, Some(found)) => part_words("opening", &found),
-        _ => Some("refused 16 0 x".to_string()),
-    };
+    let claim = of_two(&opening, &closing, id);
+    let request = Request::new(NAME_OF_TWO, &[id], &[&opening.bytes(), &closing.bytes()]);
+    (request, claim)
+}
+
+/// A wrong form in one of two maps or in both: opening's refusal first.
+pub fn two_form(rng: &mut Rng) -> Made {
+    let ((opening, i), (mut closing, _)) = (formed(rng), formed(rng));
+    if rng.chance(1, 4) {
+        closing = opening.clone();
+        closing.tracks[i].type_byte = 0x80 + rng.pick(&FORM_TYPES);
+    }
+    let id = id(rng, &opening);
+    let claim = refused_name(&opening)
+        .or_else(|| refused_name(&closing))
+        .or_else(|| of_two(&opening, &closing, id));
     let request = Request::new(NAME_OF_TWO, &[id], &[&opening.bytes(), &closing.bytes()]);
     (request, claim)
 }

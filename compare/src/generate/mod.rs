@@ -22,7 +22,7 @@ pub type Made = (Request, Option<String>);
 pub type Maker = fn(&mut Rng) -> Made;
 
 /// Kinds of cases, taken in turn. The first word is the function.
-pub const KINDS: [(&str, Maker); 69] = [
+pub const KINDS: [(&str, Maker); 76] = [
     ("header plain", packets::header_plain),
     ("header faults", packets::header_faults),
     ("header noise", packets::header_noise),
@@ -40,12 +40,15 @@ pub const KINDS: [(&str, Maker); 69] = [
     ("map position", maps::map_position),
     ("map torn", maps::map_torn),
     ("map records", maps::map_records),
+    ("map wrong form", maps::map_form),
     ("name asked", maps::name_asked),
     ("name damaged", maps::name_damaged),
     ("name torn", maps::name_torn),
+    ("name wrong form", maps::name_form),
     ("two maps", maps::two_maps),
     ("two maps damaged", maps::two_damaged),
     ("two maps torn", maps::two_torn),
+    ("two maps wrong form", maps::two_form),
     ("aux valid", texts::valid),
     ("aux not given", texts::not_given),
     ("aux line fault", texts::line_fault),
@@ -68,6 +71,7 @@ pub const KINDS: [(&str, Maker); 69] = [
     ("check ends", streams::check_ends),
     ("check tracks", streams::check_tracks),
     ("check content", streams::check_content),
+    ("check wrong form", streams::check_form),
     ("check two faults", streams::check_pair),
     ("check first packet", streams::check_first),
     ("check torn", streams::check_torn),
@@ -75,9 +79,11 @@ pub const KINDS: [(&str, Maker); 69] = [
     ("seek found", streams::seek_found),
     ("seek asked", streams::seek_asked),
     ("seek torn", streams::seek_torn),
+    ("seek wrong form", streams::seek_form),
     ("seek damage", streams::seek_damage),
     ("book build", books::build),
     ("book build torn", books::build_torn),
+    ("book build wrong form", books::build_form),
     ("book build damage", books::build_damage),
     ("lookup found", books::lookup_found),
     ("lookup asked", books::lookup_asked),
@@ -87,6 +93,7 @@ pub const KINDS: [(&str, Maker); 69] = [
     ("flt writer edges", writers::flt_edges),
     ("map writer valid", writers::map_valid),
     ("map writer one fault", writers::map_fault),
+    ("map writer wrong form", writers::map_form),
     ("map writer edges", writers::map_edges),
     ("map writer room", writers::map_room),
     ("walker stream", streams::walk_stream),

@@ -7,7 +7,19 @@ use crate::rng::Rng;
 pub const KNOWN_TYPES: [u8; 21] = [
     3, 4, 7, 8, 9, 10, 11, 12, 13, 14, 15, 16, 17, 18, 20, 21, 22, 23, 24, 25, 26,
 ];
+/// Of these the types of MPEG video, whose auxiliary form is 4F, and all others, whose form is 4D (clause 7.1.3).
+pub const MPEG_TYPES: [u8; 5] = [11, 12, 20, 22, 23];
+pub const OTHER_TYPES: [u8; 16] = [3, 4, 7, 8, 9, 10, 13, 14, 15, 16, 17, 18, 21, 24, 25, 26];
 pub const RESERVED_TYPES: [u8; 14] = [0, 1, 2, 5, 6, 19, 27, 28, 63, 64, 100, 126, 127, 50];
+
+/// A known type, one time in three of MPEG video.
+pub fn known_type(rng: &mut Rng) -> u8 {
+    if rng.chance(1, 3) {
+        rng.pick(&MPEG_TYPES)
+    } else {
+        rng.pick(&OTHER_TYPES)
+    }
+}
 
 /// A packet of a payload, padded with the fewest zeros.
 pub fn packet(kind: u8, payload: &[u8]) -> Vec<u8> {

@@ -3,7 +3,7 @@
 use super::maps::{self, Item, Model, Track};
 use super::packets::{
     damage, edge_id, flt_payload, media_payload, packet, refused, stir_reserved, tear, torn,
-    KNOWN_TYPES,
+    KNOWN_TYPES, RESERVED_TYPES,
 };
 use super::Made;
 use crate::request::{Request, CHECK, SEEK, WALK};
@@ -111,8 +111,18 @@ fn other(rng: &mut Rng) -> Piece {
     piece(kind, &rng.bytes(n))
 }
 
-/// A map that lists the tracks, and at times more that it does not list.
-fn map(tracks: &[(u8, u8)], rng: &mut Rng) -> Piece {
+/// A track of a map, at times with a name and with auxiliary information.
+fn map_track(id: u8, kind: u8, rng: &mut Rng) -> Track {
+    Track {
+        type_byte: 0x80 + kind,
+        id_byte: 0xC0 + id,
+        items: maps::name_and_form(rng, kind, 1, 1),
+        overhang: 0,
+    }
+}
+
+/// A map that lists the tracks, and at times one more that it does not list.
+fn map_model(tracks: &[(u8, u8)], rng: &mut Rng) -> Model {
     let mut model = Model::empty();
     if rng.chance(1, 3) {
         model
@@ -120,18 +130,29 @@ fn map(tracks: &[(u8, u8)], rng: &mut Rng) -> Piece {
             .push(Item::new(0x41, &rng.edge32().to_be_bytes()));
     }
     for (id, kind) in tracks {
-        let mut items = Vec::new();
-        if rng.chance(1, 4) {
-            items.push(Item::new(0x4C, &maps::text(rng)));
-        }
-        model.tracks.push(Track {
-            type_byte: 0x80 + kind,
-            id_byte: 0xC0 + id,
-            items,
-            overhang: 0,
-        });
+        model.tracks.push(map_track(*id, *kind, rng));
     }
-    piece(0xBC, &model.bytes()[16..])
+    if rng.chance(1, 8) {
+        let kind = rng.pick(&RESERVED_TYPES);
+        let at = rng.below(model.tracks.len() + 1);
+        model.tracks.insert(at, map_track(30, kind, rng));
+    }
+    model
+}
+
+fn map(tracks: &[(u8, u8)], rng: &mut Rng) -> Piece {
+    piece(0xBC, &map_model(tracks, rng).bytes()[16..])
+}
+
+/// A map that lists the tracks, one or more of them with the wrong form, and the place of the first wrong item.
+fn wrong_map(tracks: &[(u8, u8)], rng: &mut Rng) -> (Piece, u64) {
+    let mut model = map_model(tracks, rng);
+    for _ in 0..1 + rng.below(2) {
+        let i = rng.below(model.tracks.len());
+        maps::set_wrong_form(rng, &mut model.tracks[i]);
+    }
+    let place = model.wrong_form().expect("a wrong form was set in");
+    (piece(0xBC, &model.bytes()[16..]), place as u64)
 }
 
 /// Field numbers that a narrowing or a mixed-up byte order would take for others.
@@ -391,7 +412,7 @@ pub fn check_tracks(rng: &mut Rng) -> Made {
 
 /// A fault inside a map, an FLT or a media packet; the check adds the packet's offset.
 fn bad_content(rng: &mut Rng) -> (Piece, u8, u64) {
-    match rng.below(8) {
+    match rng.below(9) {
         0 => (piece(0xBC, &[]), 8, 16),
         1 => (piece(0xBC, &[0xE1, 0xFF, 0, 0, 0, 0]), 7, 16),
         2 => (
@@ -407,6 +428,10 @@ fn bad_content(rng: &mut Rng) -> (Piece, u8, u64) {
             let kind = rng.pick(&[0xBF, 0xFC]);
             let n = if kind == 0xFC { n.min(4) } else { n };
             (piece(kind, &rng.bytes(n)), 8, 16)
+        }
+        7 => {
+            let (wrong, place) = wrong_map(&tracks(rng), rng);
+            (wrong, 29, place)
         }
         // ID over 63, in a media packet of any type: the packet's own offset
         _ => {
@@ -433,6 +458,58 @@ pub fn check_content(rng: &mut Rng) -> Made {
     stream.pieces.insert(at, bad);
     let place = stream.offset(at) + inside;
     (ask(&stream), refused(number, place))
+}
+
+/// Puts a map in the first one's place, or anywhere before the EOS; gives its number.
+fn put_map(rng: &mut Rng, stream: &mut Stream, map: Piece) -> usize {
+    if rng.chance(1, 3) {
+        stream.pieces[0] = map;
+        return 0;
+    }
+    let at = 1 + rng.below(stream.eos());
+    stream.pieces.insert(at, map);
+    at
+}
+
+/// A stream whose first map or a later one has a wrong form, and the place of its item; what stands behind that map may have one
+/// too, or be cut off.
+pub fn wrong_form_stream(rng: &mut Rng) -> (Stream, Vec<u8>, u64) {
+    let mut stream = good(rng);
+    let (wrong, place) = wrong_map(&stream.tracks, rng);
+    let at = put_map(rng, &mut stream, wrong);
+    if rng.chance(1, 4) {
+        let (again, _) = wrong_map(&stream.tracks, rng);
+        let behind = at + 1 + rng.below(stream.pieces.len() - at);
+        stream.pieces.insert(behind, again);
+    }
+    let mut bytes = stream.bytes();
+    if rng.chance(1, 4) {
+        let end = stream.offset(at + 1) as usize;
+        bytes.truncate(end + rng.below(bytes.len() - end + 1));
+    }
+    let place = stream.offset(at) + place;
+    (stream, bytes, place)
+}
+
+/// A stream that passes, one map of which has a wrong form beside a null name.
+pub fn null_name_stream(rng: &mut Rng) -> Stream {
+    let mut stream = plain(rng, false);
+    let mut model = map_model(&stream.tracks, rng);
+    let i = rng.below(model.tracks.len());
+    maps::set_wrong_form(rng, &mut model.tracks[i]);
+    maps::set_null_name(rng, &mut model.tracks[i]);
+    let map = piece(0xBC, &model.bytes()[16..]);
+    put_map(rng, &mut stream, map);
+    stream
+}
+
+pub fn check_form(rng: &mut Rng) -> Made {
+    if rng.chance(1, 4) {
+        let stream = null_name_stream(rng);
+        return (ask(&stream), stream.ok());
+    }
+    let (_, bytes, place) = wrong_form_stream(rng);
+    (Request::new(CHECK, &[], &[&bytes]), refused(29, place))
 }
 
 /// Two faults at one packet: content before 19, 19 before 20, 19 and 20 before 22, 20 before 18 and 21.
@@ -658,10 +735,9 @@ pub fn question(rng: &mut Rng, stream: &Stream, near: bool) -> (u64, u64) {
     }
 }
 
-fn seek(rng: &mut Rng, near: bool) -> Made {
-    let stream = good(rng);
-    let (track, field) = question(rng, &stream, near);
-    let claim = match carrier(&stream, track, field) {
+fn seek(rng: &mut Rng, stream: &Stream, near: bool) -> Made {
+    let (track, field) = question(rng, stream, near);
+    let claim = match carrier(stream, track, field) {
         Some(at) => Some(format!("at {at}")),
         None => refused(16, 0),
     };
@@ -672,11 +748,13 @@ fn seek(rng: &mut Rng, near: bool) -> Made {
 }
 
 pub fn seek_found(rng: &mut Rng) -> Made {
-    seek(rng, false)
+    let stream = good(rng);
+    seek(rng, &stream, false)
 }
 
 pub fn seek_asked(rng: &mut Rng) -> Made {
-    seek(rng, true)
+    let stream = good(rng);
+    seek(rng, &stream, true)
 }
 
 pub fn seek_damage(rng: &mut Rng) -> Made {
@@ -684,6 +762,18 @@ pub fn seek_damage(rng: &mut Rng) -> Made {
     let track = rng.pick(&[0, 1, 2, 3, 17, 62, 63, 64]);
     let field = u64::from(field(rng));
     (Request::new(SEEK, &[track, field], &[&bytes]), None)
+}
+
+/// A field that stands before the map is not given either.
+pub fn seek_form(rng: &mut Rng) -> Made {
+    if rng.chance(1, 4) {
+        let stream = null_name_stream(rng);
+        return seek(rng, &stream, false);
+    }
+    let (stream, bytes, place) = wrong_form_stream(rng);
+    let (track, field) = question(rng, &stream, false);
+    let request = Request::new(SEEK, &[track, field], &[&bytes]);
+    (request, refused(29, place))
 }
 
 /// A field that stands before the torn packet is not given either.

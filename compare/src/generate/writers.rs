@@ -1,6 +1,6 @@
 //! Inputs of the writers, with numbers at every edge, short rooms and places beyond.
 
-use super::packets::{flt_payload, packet, KNOWN_TYPES};
+use super::packets::{flt_payload, known_type, packet, KNOWN_TYPES, MPEG_TYPES, OTHER_TYPES};
 use super::Made;
 use crate::request::{hex, lent_room, word_bytes, Request, WRITE_FLT, WRITE_MAP};
 use crate::rng::{Rng, EDGES};
@@ -183,12 +183,28 @@ fn some_material(rng: &mut Rng, text: &mut Vec<u8>) -> [Slot; 6] {
 
 /// A track of this ID without items.
 fn bare_row(rng: &mut Rng, id: u64) -> Row {
-    let kind = rng.pick(&KNOWN_TYPES);
+    let kind = known_type(rng);
     let mut slots: [Slot; 7] = [[0; 3]; 7];
     for slot in &mut slots {
         *slot = absent(rng);
     }
     (u64::from(kind), id, slots)
+}
+
+fn of_mpeg(kind: u64) -> bool {
+    MPEG_TYPES.iter().any(|mpeg| u64::from(*mpeg) == kind)
+}
+
+/// Gives a track auxiliary information, as a text or as eight bytes.
+fn set_form(rng: &mut Rng, text: &mut Vec<u8>, slots: &mut [Slot; 7], as_text: bool) {
+    if as_text {
+        let empty = rng.chance(1, 4);
+        slots[3] = text_slot(rng, text, empty);
+        slots[1] = absent(rng);
+    } else {
+        slots[1] = binary_slot(rng, text);
+        slots[3] = absent(rng);
+    }
 }
 
 /// A track of this ID with any of the items that may stand together.
@@ -199,13 +215,8 @@ fn some_row(rng: &mut Rng, text: &mut Vec<u8>, id: u64) -> Row {
         slots[0] = text_slot(rng, text, null);
     }
     if !null {
-        match rng.below(3) {
-            0 => slots[1] = binary_slot(rng, text),
-            1 => {
-                let empty = rng.chance(1, 4);
-                slots[3] = text_slot(rng, text, empty);
-            }
-            _ => {}
+        if rng.chance(2, 3) {
+            set_form(rng, text, &mut slots, of_mpeg(kind));
         }
         if rng.chance(1, 2) {
             slots[2] = number_slot(rng);
@@ -271,8 +282,8 @@ impl Input {
         counted(items.flatten().collect())
     }
 
-    /// The packet that the writer must give.
-    fn packet(&self) -> Vec<u8> {
+    /// The packet that the writer must give, where it gives one.
+    pub fn packet(&self) -> Vec<u8> {
         let mut section = Vec::new();
         for (kind, id, slots) in &self.tracks {
             section.extend([0x80 + *kind as u8, 0xC0 + *id as u8]);
@@ -493,11 +504,26 @@ fn double(rng: &mut Rng, input: &mut Input) {
     }
 }
 
-/// One or more reasons to refuse; the order 24, 11, 10, 13 decides.
+/// Sets the form that its type may not have into a track, whose name is then not null.
+pub fn misform(rng: &mut Rng, input: &mut Input) {
+    some_track(input);
+    let i = rng.below(input.tracks.len());
+    let (kind, _, slots) = &mut input.tracks[i];
+    if slots[0][0] == 1 && slots[0][2] == 0 {
+        slots[0] = absent(rng);
+    }
+    set_form(rng, &mut input.text, slots, !of_mpeg(*kind));
+}
+
+/// One or more reasons to refuse; the order 24, 11, 10, 29, 13 decides.
 pub fn map_fault(rng: &mut Rng) -> Made {
     let (mut input, bytes) = good(rng);
     let mut number = 0;
-    let which = 1 + rng.below(7);
+    let which = 1 + rng.below(15);
+    if which & 8 != 0 {
+        misform(rng, &mut input);
+        number = 29;
+    }
     if which & 4 != 0 {
         double(rng, &mut input);
         number = 10;
@@ -530,8 +556,56 @@ pub fn map_fault(rng: &mut Rng) -> Made {
     )
 }
 
-/// The types of MPEG video, whose auxiliary form is 4F; that of all others is 4D (clause 7.1.3).
-const MPEG_TYPES: [u64; 5] = [11, 12, 20, 22, 23];
+/// Either form on any type, with a text for a name, a null name or none, in a room that fits or not; at times with a fault more.
+pub fn map_form(rng: &mut Rng) -> Made {
+    let (mut input, _) = good(rng);
+    some_track(&mut input);
+    let i = rng.below(input.tracks.len());
+    let (kind, _, slots) = &mut input.tracks[i];
+    *kind = u64::from(rng.pick(&KNOWN_TYPES));
+    let as_text = rng.chance(1, 2);
+    set_form(rng, &mut input.text, slots, as_text);
+    let null = rng.chance(1, 5);
+    slots[0] = if null || rng.chance(1, 2) {
+        text_slot(rng, &mut input.text, null)
+    } else {
+        absent(rng)
+    };
+    let mut number = match as_text == of_mpeg(*kind) {
+        _ if null => 24, // beside a null name
+        true => 0,
+        false => 29,
+    };
+    let bytes = input.packet();
+    let (at, room, fits) = room_for(rng, bytes.len());
+    // one fault more, which goes before 29 or is another one
+    match rng.below(12) {
+        _ if null => {}
+        0 => {
+            bar(rng, &mut input);
+            number = 24;
+        }
+        1 => {
+            spoil(rng, &mut input);
+            number = 11;
+        }
+        2 => {
+            double(rng, &mut input);
+            number = 10;
+        }
+        3 => {
+            misform(rng, &mut input);
+            number = 29;
+        }
+        _ => {}
+    }
+    let claim = match number {
+        0 if fits => written(at, room, &bytes),
+        0 => unwritten(13, room),
+        _ => unwritten(number, room),
+    };
+    (input.ask(at, room), claim)
+}
 
 /// The longest text that a writer is given.
 const LONGEST: usize = 254;
@@ -571,7 +645,7 @@ fn full_row(rng: &mut Rng, lent: &mut Lent, id: u64) -> Row {
     for (i, listed) in CODES {
         slots[i] = code_slot(rng, listed);
     }
-    (rng.pick(&MPEG_TYPES), id, slots)
+    (u64::from(rng.pick(&MPEG_TYPES)), id, slots)
 }
 
 /// A map of such tracks, and 287 bytes of material.
@@ -622,23 +696,13 @@ fn shorten(rng: &mut Rng, input: &mut Input) {
     slot[2] -= 1;
 }
 
-/// A known type that is not of MPEG video.
-fn other_type(rng: &mut Rng) -> u64 {
-    loop {
-        let kind = u64::from(rng.pick(&KNOWN_TYPES));
-        if !MPEG_TYPES.contains(&kind) {
-            return kind;
-        }
-    }
-}
-
 /// Sets a 4D in the place of the 4F in some tracks of a full map; gives how many.
 fn swap_forms(rng: &mut Rng, input: &mut Input) -> usize {
     let all = input.tracks.len();
     let n = rng.pick(&[1, 1, 2, all]);
     let from = rng.below(all - n + 1);
     for (kind, _, slots) in &mut input.tracks[from..from + n] {
-        *kind = other_type(rng);
+        *kind = u64::from(rng.pick(&OTHER_TYPES));
         slots[1] = binary_slot(rng, &mut input.text);
         slots[3] = absent(rng);
     }
@@ -689,7 +753,8 @@ fn long_room(rng: &mut Rng, length: usize) -> (u64, u64, bool) {
     }
 }
 
-/// Maps of 63, 64 and 65 tracks, full, nearly full and lean: at the bounds of F22. An ID twice is 10, an ID of 64 is 24.
+/// Maps of 63, 64 and 65 tracks, full, nearly full and lean: at the bounds of F22. An ID twice is 10, an ID of 64 is 24; at times
+/// a form is wrong.
 pub fn map_bounds(rng: &mut Rng) -> Made {
     let n = rng.pick(&[63, 64, 64, 64, 65]);
     let ids = ids_of(rng, n);
@@ -700,11 +765,17 @@ pub fn map_bounds(rng: &mut Rng) -> Made {
     };
     let bytes = input.packet();
     let (at, room, fits) = long_room(rng, bytes.len());
+    let wrong = rng.chance(1, 12);
+    if wrong {
+        misform(rng, &mut input);
+    }
     let claim = if n > 64 && rng.chance(1, 2) {
         input.tracks[rng.below(n)].1 = 64;
         unwritten(24, room)
     } else if n > 64 {
         unwritten(10, room)
+    } else if wrong {
+        unwritten(29, room)
     } else if fits {
         written(at, room, &bytes)
     } else {
@@ -713,7 +784,7 @@ pub fn map_bounds(rng: &mut Rng) -> Made {
     (input.ask(at, room), claim)
 }
 
-/// Words at every edge anywhere.
+/// Words at every edge anywhere, and at times another known type.
 pub fn map_edges(rng: &mut Rng) -> Made {
     let (input, bytes) = good(rng);
     let (at, room, _) = room_for(rng, bytes.len());
@@ -726,6 +797,10 @@ pub fn map_edges(rng: &mut Rng) -> Made {
         } else {
             tracks[i - material.len()] = word;
         }
+    }
+    if !tracks.is_empty() && rng.chance(1, 4) {
+        let row = rng.below(tracks.len() / 23);
+        tracks[23 * row] = u64::from(rng.pick(&KNOWN_TYPES));
     }
     (ask(at, room, &input.text, &material, &tracks), None)
 }

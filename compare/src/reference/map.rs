@@ -1,7 +1,7 @@
 //! 01, Map (clause 7.1): one walk along the bytes, the first fault met is the refusal (D8).
 
 use super::header::{packet_bytes, MAP};
-use super::plate::{known_type, most_first, refuse, text_ok, Answer};
+use super::plate::{known_type, most_first, refuse, text_ok, wrong_form, Answer};
 
 /// Where bytes lie, from the packet's first byte, and how many, a closing 00 counted (D16).
 #[derive(Clone, Copy, PartialEq, Eq, Debug)]
@@ -121,10 +121,22 @@ pub const RATES: [i32; 8] = [1, 2, 3, 4, 5, 6, 7, 8];
 pub const LINES: [i32; 4] = [1, 2, 4, 6];
 pub const FIELDS: [i32; 2] = [1, 2];
 
+/// A name is null if it is a lone 00; no name is no null name.
+fn null_name(known: &[Item]) -> bool {
+    matches!(find(known, 0x4C), Some(Part { length: 1, .. }))
+}
+
+/// 29 at the end of a listed track, at the item of the form that its type may not have; a null name lifts it (02, §12).
+fn form_ok(kind: u8, known: &[Item]) -> Answer<()> {
+    match find(known, wrong_form(kind)) {
+        Some(part) if !null_name(known) => refuse(29, part.place - 2), // at its tag
+        _ => Ok(()),
+    }
+}
+
 /// The record of a listed track. A null name hides 4D, 4E and 4F, wherever they stand (D14).
 fn record(packet: &[u8], kind: u8, id: u8, known: &[Item]) -> Track {
-    let name = find(known, 0x4C);
-    let null = matches!(name, Some(Part { length: 1, .. }));
+    let null = null_name(known);
     let shown = |part: Option<Part>| if null { None } else { part };
     Track {
         id,
@@ -133,7 +145,7 @@ fn record(packet: &[u8], kind: u8, id: u8, known: &[Item]) -> Track {
         lines: code(packet, find(known, 0x51), &LINES),
         fields: code(packet, find(known, 0x52), &FIELDS),
         version: shown(find(known, 0x4E)).map(|part| number(packet, part)),
-        name,
+        name: find(known, 0x4C),
         binary: shown(find(known, 0x4D)),
         text: shown(find(known, 0x4F)),
     }
@@ -183,6 +195,7 @@ pub fn map_of(packet: &[u8]) -> Answer<Map> {
         ids.push(id);
         let known = items(packet, at + 4, next, track_form)?;
         if known_type(u64::from(kind - 0x80)) {
+            form_ok(kind - 0x80, &known)?;
             tracks.push(record(packet, kind - 0x80, id - 0xC0, &known));
         }
         at = next;

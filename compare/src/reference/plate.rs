@@ -2,9 +2,10 @@
 
 use std::fmt;
 
-/// The numbers of the plate. 25 is not used, and no refusal takes it again (F22).
-pub const PLATE: [u8; 26] = [
+/// The numbers of the plate. 25 is not used, and no refusal takes it again (F22); 29 came with 02, §12, and 28 is not given yet.
+pub const PLATE: [u8; 27] = [
     1, 2, 3, 4, 5, 6, 7, 8, 9, 10, 11, 12, 13, 14, 15, 16, 17, 18, 19, 20, 21, 22, 23, 24, 26, 27,
+    29,
 ];
 
 #[derive(Clone, Copy, PartialEq, Eq, Debug)]
@@ -50,6 +51,14 @@ pub fn torn<T>(place: u64, lacking: u64) -> Answer<T> {
 /// Table 5 as 01 lists it: 3, 4, 7 to 18, 20 to 26.
 pub fn known_type(kind: u64) -> bool {
     matches!(kind, 3 | 4 | 7..=18 | 20..=26)
+}
+
+/// Clause 7.1.3: the auxiliary form that a media type may not have, 4D on MPEG video and 4F on every other (02, §12).
+pub fn wrong_form(kind: u8) -> u8 {
+    match kind {
+        11 | 12 | 20 | 22 | 23 => 0x4D,
+        _ => 0x4F,
+    }
 }
 
 /// 01, Map, "Text": one byte at least, 00 last and nowhere else, none over 7F.

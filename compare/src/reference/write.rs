@@ -1,8 +1,8 @@
-//! 01, Writers. Order: 24, 11, 10, 13, each over the whole input; every place is 0 (D38).
+//! 01, Writers. Order: 24, 11, 10, 29, 13, each over the whole input; every place is 0 (D38; 02, §12).
 
 use super::header::{FLT, MAP};
 use super::map::{FIELDS, LINES, RATES};
-use super::plate::{known_type, refuse, Answer};
+use super::plate::{known_type, refuse, wrong_form, Answer};
 
 /// A packet of a payload: reserved bytes 0, padding the fewest zeros.
 fn packet_of(kind: u8, payload: &[u8]) -> Vec<u8> {
@@ -190,6 +190,13 @@ pub fn write_map(
         if both(items) || rows[..i].iter().any(|(_, earlier, _)| earlier == id) {
             return refuse(10, 0);
         }
+    }
+    // 29; beside a null name either form is 24 already
+    if rows
+        .iter()
+        .any(|(kind, _, items)| has(items, wrong_form(*kind)))
+    {
+        return refuse(29, 0);
     }
     // 13, or the packet
     let mut section = Vec::new();
