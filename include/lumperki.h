@@ -89,7 +89,7 @@ struct gxf_offset gxf_position(const uint8_t *s, size_t n, size_t at, uint64_t d
 
 /* The offset of the first media packet that carries a field of a track, in a whole stream: one of a media type of Table 5 whose ID is the track
  * and whose media field number is the field.
- * Refusals: first those of the check of the stream (1 to 5, 7 to 12, 14, 15, 17 to 22), with their places in the stream and, of 5, the
+ * Refusals: first those of the check of the stream (1 to 5, 7 to 12, 14, 15, 17 to 22, 29), with their places in the stream and, of 5, the
  * bytes that its torn packet lacks; then
  *   16 no packet carries it, place 0; so also of a track over 63 or a field over 32 bits
  *
