@@ -14,7 +14,7 @@ use Rattle.stream.specs.Stream.{checkOf}
 use Rattle.stream.specs.Lacking.{StreamLacking, StreamCutOff, StreamOpens}
 use Rattle.stream.specs.declared.CheckAnswer.{CheckAnswer}
 use Rattle.stream.specs.declared.CheckAnswer.the-variants as check
-use Rattle.stream.proofs.Numbers.{OfCheck, check-numbers}
+use Rattle.stream.proofs.Numbers.{in-one, OfCheck, check-numbers}
 use Rattle.stream.proofs.Torn.{lacking-of, check-opens}
 use Rattle.stream.proofs.CutOff.{check-cut}
 use Rattle.book_builder.specs.BookBuilder.{entriesIn, inRoom, buildAnswer}
@@ -32,7 +32,7 @@ unfolding buildAnswer
 build-numbers l s = go (checkOf s) (check-numbers s)
   where
     go : (a : CheckAnswer) → OfCheck a → OfBuild (inRoom (length l) (length (entriesIn s)) a)
-    go (check.Refused r) h = h
+    go (check.Refused r) h = in-one r h
     go (check.Packets k) h = either OfBuild (ltb (length l) (16 * length (entriesIn s))) (omega arith, omega arith, λ n. refl) tt
 
 pub build-lacking : (l s : List ℕ) (r : Refusal) → BuildRefuses l s r → StreamLacking (BuildRefuses l) s r

@@ -1,7 +1,8 @@
 -- Which numbers the refusal of a locator table can have, and that of a position by it; bytes lack with 5 alone.
-use Prim.Native.Nat.{ℕ, _+_, _-_, _*_}
+use Prim.Native.Nat.{ℕ, _+_, _-_, _*_, _≤_}
 use mathlib.Core.Path.{_≡_, refl, subst}
 use mathlib.Core.List.{List}
+use mathlib.Core.Logic.{_⊎_, inl, inr}
 use native.Mathlib.Omega.{arith}
 use lib.ListN.{length, take, drop}
 use lib.Dec.{ltb, eqb}
@@ -20,17 +21,26 @@ use Rattle.locator.specs.declared.LocatorAnswer.the-variants as locator
 use Rattle.locator.specs.declared.PositionAnswer.{PositionAnswer}
 use Rattle.locator.specs.declared.PositionAnswer.the-variants as position
 
+-- 8, or 14 or 15
+abbrev pub TableFault : Refusal → Type 0
+TableFault r = Among 8 8 r ⊎ Among 14 15 r
+
 abbrev pub OfTable : LocatorAnswer → Type 0
 OfTable (locator.Table t) = Unit {0}
-OfTable (locator.Refused r) = Among 8 15 r
+OfTable (locator.Refused r) = TableFault r
+
+-- in one range
+in-one : (hi : ℕ) (r : Refusal) → 15 ≤ hi → TableFault r → Among 8 hi r
+in-one hi r l (inl h) = wider 8 hi r (omega arith) (omega arith) h
+in-one hi r l (inr h) = wider 8 hi r (omega arith) l h
 
 pub table-numbers : (p : List ℕ) → OfTable (tableOf p)
 unfolding tableOf
 table-numbers p =
-    either OfTable (ltb (length p - 16) 8) (omega arith, omega arith, λ n. refl)
-    (either OfTable (ltb 1000 (le p 20 4)) (omega arith, omega arith, λ n. refl)
-    (either OfTable (eqb (le p 16 4) 0) (omega arith, omega arith, λ n. refl)
-    (either OfTable (ltb (length p - 16) (8 + 4 * le p 20 4)) (omega arith, omega arith, λ n. refl) tt)))
+    either OfTable (ltb (length p - 16) 8) (inl (omega arith, omega arith, λ n. refl))
+    (either OfTable (ltb 1000 (le p 20 4)) (inr (omega arith, omega arith, λ n. refl))
+    (either OfTable (eqb (le p 16 4) 0) (inr (omega arith, omega arith, λ n. refl))
+    (either OfTable (ltb (length p - 16) (8 + 4 * le p 20 4)) (inl (omega arith, omega arith, λ n. refl)) tt)))
 
 abbrev pub OfPosition : ℕ → PositionAnswer → Type 0
 OfPosition lo (position.At o) = Unit {0}
@@ -41,7 +51,7 @@ unfolding positionOf
 entry-numbers p d = go (tableOf p) (table-numbers p)
   where
     go : (a : LocatorAnswer) → OfTable a → OfPosition 8 (byTable p d a)
-    go (locator.Refused r) h = wider 8 16 r (omega arith) (omega arith) h
+    go (locator.Refused r) h = in-one 16 r (omega arith) h
     go (locator.Table t) h = either (OfPosition 8) (ltb (entryFor d t) (t .count)) tt (omega arith, omega arith, λ n. refl)
 
 pub position-numbers : (s : List ℕ) (at d : ℕ) → OfPosition 1 (positionAt s at d)
@@ -64,7 +74,7 @@ module _ (s : List ℕ) (at : ℕ) (r : Refusal) where
 
   pub table-passed : tableAt s at ≡ locator.Refused r → PassedOn s at r
   unfolding tableAt
-  table-passed = passed-by (tableIn s at) (locator.Refused r) s at 0xFC r (omega arith) (λ q e. cc) (λ p e. subst OfTable e (table-numbers (take (p .len) (drop at s))))
+  table-passed = passed-by (tableIn s at) (locator.Refused r) s at 0xFC r (omega arith) (λ q e. cc) (λ p e. in-one 15 r (omega arith) (subst OfTable e (table-numbers (take (p .len) (drop at s)))))
 
   pub position-passes : (d : ℕ) → headerAt s at ≡ packet.Refused r → positionAt s at d ≡ position.Refused r
   unfolding positionAt

@@ -34,7 +34,7 @@ pub record WrongForm (p : List ℕ) : Type 0 where
   -- 29 is given at the first wrong form, whatever comes behind that track, and only there
   pub given : (u : UpToTracks p) (q : ℕ) → WrongIn p u q → mapVerdict p ≡ bad 29 q
   pub only : (r : Refusal) → mapVerdict p ≡ Refused r → r .number ≡ 29 → (u : UpToTracks p) × WrongIn p u (r .place)
-  -- without one the verdict is that of 01, whatever it is; a map has one or has none
+  -- a map that reaches its tracks and has none has their verdict as it was before, whatever it is; it has one or has none
   pub otherwise : (u : UpToTracks p) → ((q : ℕ) → WrongIn p u q → ⊥) → mapVerdict p ≡ judgeOtherwise [] (u .a + 2) (tracksThere p u .list) (tracksThere p u .end)
   pub either : (u : UpToTracks p) → ((q : ℕ) × WrongIn p u q) ⊎ ((q : ℕ) → WrongIn p u q → ⊥)
   -- so a map that passes otherwise is accepted, or refused with 29

@@ -82,7 +82,7 @@ only ids p (d ∷ ds) e r n h =
     fresh true q a b h later = not-29 10 p r (omega arith) h n
     fresh false q a b h later = items (verdictOf section.Track (d .items) (p + 4)) refl q a b h later
 
--- without a wrong form the verdict is that of 01
+-- without a wrong form the verdict is what it was
 otherwise : (ids : List ℕ) (p : ℕ) (ds : List Description) (e : End) → ((q : ℕ) → FirstWrong ids p ds q → ⊥) → judgeTracks ids p ds e ≡ judgeOtherwise ids p ds e
 unfolding judgeTracks judgeOtherwise trackVerdict
 otherwise ids p [] e none = refl

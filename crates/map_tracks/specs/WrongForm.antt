@@ -62,7 +62,7 @@ abbrev pub FirstWrong : List ℕ → ℕ → List Description → ℕ → Type 0
 FirstWrong ids p [] q = ⊥
 FirstWrong ids p (d ∷ ds) q = Otherwise ids p d × (WrongAt p d q ⊎ (RightForm p d × FirstWrong (d .id ∷ ids) (behind p d) ds q))
 
--- the verdict on tracks as 01 alone has it, which asks no track for its form
+-- the verdict on tracks as 01 had it before 02, §12: no track is asked for its form
 unfoldable pub judgeOtherwise : List ℕ → ℕ → List Description → End → Verdict
 judgeOtherwise ids p [] e = endVerdict p e
 judgeOtherwise ids p (d ∷ ds) e =
@@ -75,6 +75,6 @@ pub record Judged29 (ids : List ℕ) (p : ℕ) (ds : List Description) (e : End)
   -- 29 is given at the first wrong form, and only there
   pub given : (q : ℕ) → FirstWrong ids p ds q → judgeTracks ids p ds e ≡ bad 29 q
   pub only : (r : Refusal) → judgeTracks ids p ds e ≡ Refused r → r .number ≡ 29 → FirstWrong ids p ds (r .place)
-  -- and without one the verdict is that of 01, whatever it is; tracks have one or have none
+  -- and without one the verdict is what it was before, whatever it is; tracks have one or have none
   pub otherwise : ((q : ℕ) → FirstWrong ids p ds q → ⊥) → judgeTracks ids p ds e ≡ judgeOtherwise ids p ds e
   pub either : ((q : ℕ) × FirstWrong ids p ds q) ⊎ ((q : ℕ) → FirstWrong ids p ds q → ⊥)

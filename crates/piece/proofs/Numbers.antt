@@ -1,8 +1,9 @@
--- Which numbers the refusal of a stream's packet can have: 1 to 5 of its header, 17, and 7 to 15 or 29 of its content, so 1 to 29; bytes lack with 5, the header's, alone.
+-- Which numbers the refusal of a stream's packet can have: 1 to 5 of its header, 17, and 7 to 12, 14, 15 or 29 of its content; bytes lack with 5, the header's, alone.
 use Prim.Native.Nat.{ℕ, _≤_}
 use mathlib.Core.Path.{_≡_, refl, sym, _∙_, ap, subst}
 use mathlib.Core.Bool.{Bool, true, false}
 use mathlib.Core.List.{List}
+use mathlib.Core.Logic.{_⊎_, inl, inr}
 use native.Mathlib.Omega.{arith}
 use lib.ListN.{length, take, drop}
 use lib.Dec.{eqb}
@@ -19,11 +20,11 @@ use Rattle.packet.proofs.Numbers.{OfHeader, header-numbers}
 use Rattle.map_items.specs.declared.Verdict.{Verdict}
 use Rattle.map_items.specs.declared.Verdict.the-variants as verdict
 use Rattle.map.specs.Map.{mapVerdict}
-use Rattle.map.proofs.Numbers.{verdict-refused}
+use Rattle.map.proofs.Numbers.{verdict-own}
 use Rattle.locator.specs.Locator.{tableOf}
 use Rattle.locator.specs.declared.LocatorAnswer.{LocatorAnswer}
 use Rattle.locator.specs.declared.LocatorAnswer.the-variants as locator
-use Rattle.locator.proofs.Numbers.{OfTable, table-numbers}
+use Rattle.locator.proofs.Numbers.{TableFault, OfTable, table-numbers}
 use Rattle.media.specs.Media.{preambleOf}
 use Rattle.media.specs.declared.MediaAnswer.{MediaAnswer}
 use Rattle.media.specs.declared.MediaAnswer.the-variants as media
@@ -32,45 +33,69 @@ use Rattle.piece.specs.Piece.{moved, plainPiece, ofMap, ofLocator, ofMed
 use Rattle.piece.specs.declared.PieceAnswer.{PieceAnswer}
 use Rattle.piece.specs.declared.PieceAnswer.the-variants.{Whole, Refused}
 
-abbrev pub OfPiece : ℕ → ℕ → PieceAnswer → Type 0
-OfPiece lo hi (Whole x) = Unit {0}
-OfPiece lo hi (Refused r) = Among lo hi r
+-- a content fault, or 17
+abbrev pub WholeFault : Refusal → Type 0
+WholeFault r = Among 7 12 r ⊎ (Among 14 15 r ⊎ (Among 17 17 r ⊎ Among 29 29 r))
 
--- a content fault
-pub content-numbers : (p : List ℕ) (at packetType : ℕ) → OfPiece 7 29 (contentOf p at packetType)
+abbrev pub PieceFault : Refusal → Type 0
+PieceFault r = Among 1 5 r ⊎ WholeFault r
+
+-- in one range
+pub in-whole : (r : Refusal) → WholeFault r → Among 7 29 r
+in-whole r (inl h) = wider 7 29 r (omega arith) (omega arith) h
+in-whole r (inr (inl h)) = wider 7 29 r (omega arith) (omega arith) h
+in-whole r (inr (inr (inl h))) = wider 7 29 r (omega arith) (omega arith) h
+in-whole r (inr (inr (inr h))) = wider 7 29 r (omega arith) (omega arith) h
+
+abbrev OfWhole : PieceAnswer → Type 0
+OfWhole (Whole x) = Unit {0}
+OfWhole (Refused r) = WholeFault r
+
+abbrev pub OfPiece : PieceAnswer → Type 0
+OfPiece (Whole x) = Unit {0}
+OfPiece (Refused r) = PieceFault r
+
+content-numbers : (p : List ℕ) (at packetType : ℕ) → OfWhole (contentOf p at packetType)
 unfolding contentOf
 content-numbers p at packetType =
-    either (OfPiece 7 29) (eqb packetType 0xBF) (of-media (preambleOf p 0) (preamble-numbers p 0))
-    (either (OfPiece 7 29) (eqb packetType 0xBC) (of-map (mapVerdict p) refl)
-    (either (OfPiece 7 29) (eqb packetType 0xFC) (of-locator (tableOf p) (table-numbers p)) tt))
+    either OfWhole (eqb packetType 0xBF) (of-media (preambleOf p 0) (preamble-numbers p 0))
+    (either OfWhole (eqb packetType 0xBC) (of-map (mapVerdict p) refl) (either OfWhole (eqb packetType 0xFC) (of-locator (tableOf p) (table-numbers p)) tt))
   where
-    of-media : (a : MediaAnswer) → OfMedia a → OfPiece 7 29 (ofMedia at (length p) a)
+    of-media : (a : MediaAnswer) → OfMedia a → OfWhole (ofMedia at (length p) a)
     of-media (media.Preamble m) h = tt
-    of-media (media.Refused r) h = wider 7 29 (moved at r) (omega arith) (omega arith) h
+    of-media (media.Refused r) h = inl (wider 7 12 (moved at r) (omega arith) (omega arith) h)
 
-    of-map : (v : Verdict) → mapVerdict p ≡ v → OfPiece 7 29 (ofMap at (length p) v)
+    in-map : (r : Refusal) → Among 7 12 r ⊎ Among 29 29 r → WholeFault (moved at r)
+    in-map r (inl h) = inl h
+    in-map r (inr h) = inr (inr (inr h))
+
+    of-map : (v : Verdict) → mapVerdict p ≡ v → OfWhole (ofMap at (length p) v)
     of-map verdict.Accepted h = tt
-    of-map (verdict.Refused r) h = verdict-refused p r h
+    of-map (verdict.Refused r) h = in-map r (verdict-own p r h)
 
-    of-locator : (a : LocatorAnswer) → OfTable a → OfPiece 7 29 (ofLocator at (length p) a)
+    in-table : (r : Refusal) → TableFault r → WholeFault (moved at r)
+    in-table r (inl h) = inl (wider 7 12 (moved at r) (omega arith) (omega arith) h)
+    in-table r (inr h) = inr (inl h)
+
+    of-locator : (a : LocatorAnswer) → OfTable a → OfWhole (ofLocator at (length p) a)
     of-locator (locator.Table t) h = tt
-    of-locator (locator.Refused r) h = wider 7 29 (moved at r) (omega arith) (omega arith) h
+    of-locator (locator.Refused r) h = in-table r h
 
 -- of a packet whose header is whole: 17, or a content fault
-pub whole-numbers : (s : List ℕ) (at : ℕ) (first : Bool) (w : Packet) → OfPiece 7 29 (afterHeader s at first (packet.Whole w))
+whole-numbers : (s : List ℕ) (at : ℕ) (first : Bool) (w : Packet) → OfWhole (afterHeader s at first (packet.Whole w))
 whole-numbers s at first w =
-    either (OfPiece 7 29) (opens first (w .«packet_type»)) (content-numbers (take (w .len) (drop at s)) at (w .«packet_type»)) (omega arith, omega arith, λ n. refl)
+    either OfWhole (opens first (w .«packet_type»)) (content-numbers (take (w .len) (drop at s)) at (w .«packet_type»)) (inr (inr (inl (omega arith, omega arith, λ n. refl))))
 
-pub piece-numbers : (s : List ℕ) (at : ℕ) (first : Bool) → OfPiece 1 29 (pieceAt s at first)
+pub piece-numbers : (s : List ℕ) (at : ℕ) (first : Bool) → OfPiece (pieceAt s at first)
 unfolding pieceAt
 piece-numbers s at first = go (headerAt s at) (header-numbers s at)
   where
-    of-whole : (a : PieceAnswer) → OfPiece 7 29 a → OfPiece 1 29 a
+    of-whole : (a : PieceAnswer) → OfWhole a → OfPiece a
     of-whole (Whole x) h = tt
-    of-whole (Refused r) h = wider 1 29 r (omega arith) (omega arith) h
+    of-whole (Refused r) h = inr h
 
-    go : (a : PacketAnswer) → OfHeader 5 a → OfPiece 1 29 (afterHeader s at first a)
-    go (packet.Refused r) h = wider 1 29 r (omega arith) (omega arith) h
+    go : (a : PacketAnswer) → OfHeader 5 a → OfPiece (afterHeader s at first a)
+    go (packet.Refused r) h = inl h
     go (packet.Whole w) h = of-whole (afterHeader s at first (packet.Whole w)) (whole-numbers s at first w)
 
 -- a torn packet is what its header says
@@ -80,7 +105,7 @@ torn-piece s at first r = go (headerAt s at) refl
   where
     go : (a : PacketAnswer) → headerAt s at ≡ a → afterHeader s at first a ≡ Refused r → r .number ≡ 5 → headerAt s at ≡ packet.Refused r
     go (packet.Refused q) h e five = h ∙ ap packet.Refused cc
-    go (packet.Whole w) h e five = other r (subst (OfPiece 7 29) e (whole-numbers s at first w)) (omega arith) five
+    go (packet.Whole w) h e five = other r (in-whole r (subst OfWhole e (whole-numbers s at first w))) (omega arith) five
 
 -- 29 is a map's: the packet's header is whole, and its content is refused so at the place less the offset
 pub record OfWrongForm (s : List ℕ) (at : ℕ) (r : Refusal) : Type 0 where
@@ -110,7 +135,8 @@ wrong-form-piece s at first r = go (headerAt s at) refl
 
     of-locator : (w : Packet) (a : LocatorAnswer) → OfTable a → ofLocator at (length (take (w .len) (drop at s))) a ≡ Refused r → r .number ≡ 29 → OfWrongForm s at r
     of-locator w (locator.Table t) h e n = absurd (let z : _≡_ {A = ℕ} 0 1 = cc in omega arith)
-    of-locator w (locator.Refused q) h e n = let z : moved at q ≡ r = cc in no (moved at q) (omega arith) (wider 1 17 (moved at q) (omega arith) (omega arith) h) z n
+    of-locator w (locator.Refused q) (inl h) e n = let z : moved at q ≡ r = cc in no (moved at q) (omega arith) (wider 1 17 (moved at q) (omega arith) (omega arith) h) z n
+    of-locator w (locator.Refused q) (inr h) e n = let z : moved at q ≡ r = cc in no (moved at q) (omega arith) (wider 1 17 (moved at q) (omega arith) (omega arith) h) z n
 
     content : (w : Packet) → headerAt s at ≡ packet.Whole w → (a : Bool) → eqb (w .«packet_type») typeMedia ≡ a → (b : Bool) → eqb (w .«packet_type») typeMap ≡ b → (c : Bool)
         → pick a (ofMedia at (length (take (w .len) (drop at s))) (preambleOf (take (w .len) (drop at s)) 0))

@@ -37,7 +37,7 @@ use Rattle.stream.specs.declared.Spot.{Spot}
 use Rattle.stream.specs.declared.Spot.the-variants as spot
 use Rattle.stream.specs.declared.SeekAnswer.the-variants as seek
 use Rattle.stream.proofs.Laws.{turn, out, judged, onward}
-use Rattle.stream.proofs.Numbers.{OfCheck, out-numbers, check-numbers, OfSeek, seek-numbers}
+use Rattle.stream.proofs.Numbers.{in-one, OfCheck, out-numbers, check-numbers, OfSeek, seek-numbers}
 use Rattle.stream.proofs.Sought.{refused-alike}
 
 -- the packets ps of s, from an offset on, stop at a torn one, and what s with t behind it comes to is what it comes to from there on
@@ -212,7 +212,7 @@ lacking-of Refuses to back s r e n =
     }
 
 pub check-lacking : (s : List ℕ) (r : Refusal) → CheckRefuses s r → StreamLacking CheckRefuses s r
-check-lacking s r e = lacking-of CheckRefuses (λ z q f. f) (λ z q f five. f) s r e (subst OfCheck e (check-numbers s) .2)
+check-lacking s r e = lacking-of CheckRefuses (λ z q f. f) (λ z q f five. f) s r e (in-one r (subst OfCheck e (check-numbers s)) .2)
 
 pub seek-lacking : (track field : ℕ) (s : List ℕ) (r : Refusal) → SeekRefuses track field s r → StreamLacking (SeekRefuses track field) s r
 unfolding seekOf

@@ -5,14 +5,16 @@ use mathlib.Core.Bool.{Bool, true, false}
 use mathlib.Core.List.{List, [], _∷_}
 use native.Mathlib.Omega.{arith}
 use native.Mathlib.Nat.{add-zero}
-use lib.ListN.{length, getD, replicate}
+use lib.ListN.{length, getD, take, drop, replicate}
 use lib.Dec.{ltb, eqb}
 use borrow.Author.Tests.{lt-ltb}
 use Rattle.plate.specs.Choice.{pick}
 use Rattle.plate.specs.Ended.{none}
+use Rattle.plate.specs.Plate.{refusal}
 use Rattle.plate.specs.declared.Refusal.{Refusal}
 use Rattle.packet.proofs.Laws.{whole}
-use Rattle.piece.specs.Piece.{moved, contentOf, opens, pieceAt}
+use Rattle.map.specs.Map.{mapVerdict}
+use Rattle.piece.specs.Piece.{moved, ofMap, contentOf, opens, pieceAt}
 use Rattle.piece.specs.declared.PieceAnswer.{PieceAnswer}
 use Rattle.piece.specs.declared.PieceAnswer.the-variants as piece
 use Rattle.piece.specs.declared.Piece.{Piece}
@@ -23,10 +25,11 @@ use Rattle.order.specs.declared.Step.{Step}
 use Rattle.order.specs.declared.Step.the-variants as step
 use Rattle.order.proofs.Numbers.{OfStep, step-numbers}
 use Rattle.stream.specs.Stream.{Placed, End, closed, runsOut, stops, typesAfter, onPiece, packetsFrom, packets, ranOut, onStep, stepAt, judgePackets, checkOf}
-use Rattle.stream.specs.WrongForm.{StreamWrongForm, FirstMap}
+use Rattle.stream.specs.WrongForm.{CheckNumber, StreamWrongForm, MapThere, FirstMap}
 use Rattle.stream.specs.declared.CheckAnswer.the-variants as check
 use Rattle.stream.specs.Lacking.{CheckRefuses, bytesOf}
-use Rattle.stream.proofs.Numbers.{out-numbers}
+use Rattle.stream.proofs.Begun.{refused-there}
+use Rattle.stream.proofs.Numbers.{fault-number, OfCheck, out-numbers, check-numbers}
 
 not-out : {X : Type 0} (r : Refusal) → r .number ≡ 29 → (count n : ℕ) → check.Refused (ranOut count n) ≡ check.Refused r → X
 not-out r k count n e = let q : ranOut count n ≡ r = cc in absurd (let z : ranOut count n .number ≡ 29 = ap (λ (x : Refusal). x .number) q ∙ k in omega (arith, out-numbers count n .1))
@@ -70,6 +73,9 @@ stopped-at s r k (suc f) first types at e = go (ltb at (length s)) (pieceAt s at
     go true (piece.Refused q) w later e = let z : q ≡ r = cc in rw add-zero (wrong-form-piece s at first r (w ∙ ap piece.Refused z) k)
     go true (piece.Whole x) w later e = on x later (eqb (x .«packet_type») 0xFB) e
 
+pub check-number : (s : List ℕ) (r : Refusal) → checkOf s ≡ check.Refused r → CheckNumber (r .number)
+check-number s r e = fault-number r (subst OfCheck e (check-numbers s))
+
 pub check-29 : (s : List ℕ) (r : Refusal) → checkOf s ≡ check.Refused r → r .number ≡ 29 → StreamWrongForm s r
 unfolding checkOf packets
 check-29 s r e k =
@@ -85,6 +91,17 @@ check-29 s r e k =
       number = sym (ap (λ (x : Refusal). x .number) (w .place)) ∙ k;
       place = ap (λ (x : Refusal). x .place) (w .place);
     }
+
+-- a map behind the packets of an accepted stream
+pub map-there : MapThere CheckRefuses
+unfolding pieceAt contentOf opens
+map-there s n e before x after m z begun len h own v =
+    let w = whole z (x .at) (record { «packet_type» = 0xBC; len = len }) h in
+    refused-there s x after z begun n e before m (moved (x .at) own) (λ t. (omega (arith, w .least, w .within), λ first. rw h (go first)))
+  where
+    go : (first : Bool) → pick (opens first 0xBC) (ofMap (x .at) (length (take len (drop (x .at) z))) (mapVerdict (take len (drop (x .at) z)))) (piece.Refused (refusal 17 (x .at))) ≡ piece.Refused (moved (x .at) own)
+    go true = rw v
+    go false = rw v
 
 -- the map that opens a stream
 pub first-map : FirstMap CheckRefuses

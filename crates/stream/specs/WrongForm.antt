@@ -1,15 +1,22 @@
 -- A stream that is refused with 29 (02, §12): it stops at a map with the wrong form, behind the packets that passed, and the place is the map's own with that map's offset added. Proved in proofs/WrongForm.antt.
-use Prim.Native.Nat.{ℕ, _+_}
+use Prim.Native.Nat.{ℕ, _+_, _≤_}
 use mathlib.Core.Path.{_≡_}
-use mathlib.Core.List.{List}
+use mathlib.Core.List.{List, _∷_, _++_}
+use mathlib.Core.Logic.{_⊎_}
 use lib.ListN.{take, drop}
+use Rattle.plate.specs.Plate.{placed}
 use Rattle.plate.specs.declared.Refusal.{Refusal}
 use Rattle.packet.specs.Packet.{typeMap, headerAt}
 use Rattle.packet.specs.declared.PacketAnswer.the-variants as packet
 use Rattle.map_items.specs.declared.Verdict.the-variants as verdict
 use Rattle.map.specs.Map.{mapVerdict}
-use Rattle.stream.specs.Stream.{stops, packets}
+use Rattle.stream.specs.Stream.{Placed, stops, packets, checkOf}
 use Rattle.stream.specs.Lacking.{bytesOf}
+use Rattle.stream.specs.declared.CheckAnswer.the-variants as check
+
+-- the numbers that a check can be refused with: of a header, of content, of the order, and 29
+abbrev pub CheckNumber : ℕ → Type 0
+CheckNumber n = ((1 ≤ n) × (n ≤ 5)) ⊎ (((7 ≤ n) × (n ≤ 12)) ⊎ (((14 ≤ n) × (n ≤ 15)) ⊎ (((17 ≤ n) × (n ≤ 22)) ⊎ (n ≡ 29))))
 
 -- r is what the stream is refused with, its number 29
 pub record StreamWrongForm (s : List ℕ) (r : Refusal) : Type 0 where
@@ -22,6 +29,13 @@ pub record StreamWrongForm (s : List ℕ) (r : Refusal) : Type 0 where
   pub verdict : mapVerdict (take len (drop (bytesOf (packets s .list)) s)) ≡ verdict.Refused own
   pub number : own .number ≡ 29
   pub place : r .place ≡ own .place + bytesOf (packets s .list)
+
+-- the other way: bytes z that begin as an accepted stream does, up to one of its packets, and have a whole map there, are refused with what that map is refused with, its offset added, whatever stands behind it
+abbrev pub MapThere : (List ℕ → Refusal → Type 0) → Type 0
+MapThere Refuses =
+    (s : List ℕ) (n : ℕ) → checkOf s ≡ check.Packets n → (before : List Placed) (x : Placed) (after : List Placed) → packets s .list ≡ before ++ (x ∷ after)
+    → (z : List ℕ) → take (x .at) z ≡ take (x .at) s → (len : ℕ) → headerAt z (x .at) ≡ packet.Whole (record { «packet_type» = typeMap; len = len })
+    → (own : Refusal) → mapVerdict (take len (drop (x .at) z)) ≡ verdict.Refused own → Refuses z (placed own (own .place + x .at))
 
 -- whatever the map that opens a stream is refused with, its header being whole, the stream is
 abbrev pub FirstMap : (List ℕ → Refusal → Type 0) → Type 0
