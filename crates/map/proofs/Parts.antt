@@ -73,7 +73,7 @@ whole-tracks ids p (d ∷ ds) e h =
     )
 
 -- the two length words
-both-words : (m : List ℕ) (a e : ℕ) → layoutOf m ≡ Both a e → (a ≡ 20 + be m 18 2) × (e ≡ a + 2 + be m a 2)
+pub both-words : (m : List ℕ) (a e : ℕ) → layoutOf m ≡ Both a e → (a ≡ 20 + be m 18 2) × (e ≡ a + 2 + be m a 2)
 unfolding layoutOf afterMaterial
 both-words m a e = go (ltb (length m) 20) (ltb (length m - 20) (be m 18 2)) (ltb (length m - (20 + be m 18 2)) 2) (ltb (length m - (20 + be m 18 2) - 2) (be m (20 + be m 18 2) 2))
   where

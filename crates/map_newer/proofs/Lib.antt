@@ -9,3 +9,4 @@ pub mod Outside
 pub mod Padded
 pub mod Parts
 pub mod Tracks
+pub mod WrongForm

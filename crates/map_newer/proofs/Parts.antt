@@ -45,7 +45,7 @@ pub struck-good : (p : MapParts) → Good p → Good (struck p)
 unfolding struck
 struck-good p g = (kept-good section.Material materialStays [] [] 0 0 (p .material) (λ t e. e) (g .0), struck-tracks-good [] [] (p .tracks) (λ t e. e) (g .1))
 
-fits : (p : MapParts) → length (p .spare) ≡ 4 → length (itemsBytes (p .material)) < 65536 → inside-tracks.descriptionsSize (map described (p .tracks)) < 65536 → Fit p
+pub fits : (p : MapParts) → length (p .spare) ≡ 4 → length (itemsBytes (p .material)) < 65536 → inside-tracks.descriptionsSize (map described (p .tracks)) < 65536 → Fit p
 fits p f m t =
     record {
       four = f;

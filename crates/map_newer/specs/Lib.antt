@@ -3,3 +3,4 @@ pub mod Functions
 pub mod Known
 pub mod Names
 pub mod Strike
+pub mod WrongForm
