@@ -22,7 +22,7 @@ use Rattle.map_writer.specs.Largest.{largestText, largestMaterial, large
 use Rattle.map_writer.specs.Write.{slotValue, itemsOf, partsGiven, mapPacket, mapAnswer}
 
 -- an absent slot, a number, a code of −2, a text
-abbrev absent : List ℕ
+abbrev pub absent : List ℕ
 absent = 0 ∷ 0 ∷ 0 ∷ []
 
 abbrev number : ℕ → List ℕ
@@ -31,22 +31,18 @@ number n = 1 ∷ n ∷ 0 ∷ []
 abbrev notAvailable : List ℕ
 notAvailable = number 0xFFFFFFFFFFFFFFFE
 
-abbrev at : ℕ → ℕ → List ℕ
+abbrev pub at : ℕ → ℕ → List ℕ
 at from n = 1 ∷ from ∷ n ∷ []
 
 -- a material with a first field alone, and a track of a name and a rate
-abbrev material : ℕ → List ℕ
+abbrev pub material : ℕ → List ℕ
 material first = absent ++ number first ++ absent ++ absent ++ absent ++ absent
 
-abbrev track : ℕ → ℕ → List ℕ → List ℕ → List ℕ
+abbrev pub track : ℕ → ℕ → List ℕ → List ℕ → List ℕ
 track mediaType id name rate = (mediaType ∷ id ∷ []) ++ name ++ absent ++ absent ++ absent ++ rate ++ absent ++ absent
 
--- a track of a 4D and a 4F
-abbrev formed : ℕ → ℕ → List ℕ → List ℕ → List ℕ
-formed mediaType id aux mpeg = (mediaType ∷ id ∷ []) ++ absent ++ aux ++ absent ++ mpeg ++ replicate 9 0
-
 -- the text A1
-abbrev text : List ℕ
+abbrev pub text : List ℕ
 text = 0x41 ∷ 0x31 ∷ []
 
 -- M: first field 0, track 1 of type 10, name A1, rate not available
@@ -87,21 +83,8 @@ pub edges :
     × (mapAnswer (replicate 320 7) 0 (replicate 254 0x41) (replicate 18 0) ((10 ∷ 1 ∷ []) ++ at 0 254 ++ at 0 8 ++ number 1 ++ absent ++ number 1 ++ number 1 ++ number 1) ≡ Length 320)
     -- 4D beside 4F
     × (mapAnswer [] 0 (replicate 8 1) (material 0) ((10 ∷ 1 ∷ []) ++ at 0 1 ++ at 0 8 ++ absent ++ at 0 1 ++ replicate 9 0) ≡ refused 10)
-    -- the wrong form: a 4F on types 10, 21 and 24, a 4D on 11 and 23; with the right one it is the room alone that lacks
-    × (mapAnswer [] 0 text (material 0) (formed 10 1 absent (at 0 2)) ≡ refused 29)
-    × (mapAnswer [] 0 text (material 0) (formed 21 1 absent (at 0 2)) ≡ refused 29)
-    × (mapAnswer [] 0 text (material 0) (formed 24 1 absent (at 0 2)) ≡ refused 29)
-    × (mapAnswer [] 0 (replicate 8 1) (material 0) (formed 11 1 (at 0 8) absent) ≡ refused 29)
-    × (mapAnswer [] 0 (replicate 8 1) (material 0) (formed 23 1 (at 0 8) absent) ≡ refused 29)
-    × (mapAnswer [] 0 text (material 0) (formed 20 1 absent (at 0 2)) ≡ refused 13)
-    × (mapAnswer [] 0 (replicate 8 1) (material 0) (formed 13 1 (at 0 8) absent) ≡ refused 13)
-    -- 24, 11 and 10 of a later track go before it; and 29 of a later one before 13
-    × (mapAnswer [] 0 text (material 0) (formed 10 1 absent (at 0 2) ++ track 5 2 absent absent) ≡ refused 24)
-    × (mapAnswer [] 0 (0x41 ∷ 0x80 ∷ []) (material 0) (formed 10 1 absent (at 0 1) ++ track 10 2 (at 0 2) absent) ≡ refused 11)
-    × (mapAnswer [] 0 text (material 0) (formed 10 1 absent (at 0 2) ++ track 10 1 absent absent) ≡ refused 10)
-    × (mapAnswer [] 0 text (material 0) (track 10 1 absent absent ++ formed 10 2 absent (at 0 2)) ≡ refused 29)
 unfolding mapAnswer anyWrong givenWrong wrongForm mpegType faultOf slotsFault slotFault fits reads isText isEight isCode codeFits allowed has textOk knownType tracksFault ownFault barred nullName given idsFault idFault slots tracksFrom mapPacket partsGiven itemsOf slotValue encode encode.packetOf front sectionBytes packetLength padding described itemsBytes tracks.descriptionsBytes beBytes
-edges = (refl, refl, refl, refl, refl, refl, refl, refl, refl, refl, refl, refl, refl, refl, refl, refl, refl, refl, refl, refl, refl, refl, refl, refl, refl, refl, refl, refl, refl, refl, refl, refl)
+edges = (refl, refl, refl, refl, refl, refl, refl, refl, refl, refl, refl, refl, refl, refl, refl, refl, refl, refl, refl, refl, refl)
 
 -- the largest map has no fault; and what its items and its tracks take
 pub largest-sound : faultOf largestText largestMaterial largestTracks ≡ 0

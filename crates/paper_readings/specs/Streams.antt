@@ -36,6 +36,10 @@ deformed = with 0x8A (name ++ rate ++ mpeg)
 abbrev pub reformed : List ℕ
 reformed = M ++ headed 0xFD 16 ++ deformed ++ headed 0xFB 16
 
+-- an FLT without entries that is not second, at 60, and a map behind it, where only EOS may stand
+abbrev pub due : List ℕ → List ℕ
+due map = M ++ headed 0xFD 16 ++ headed 0xFC 24 ++ (1 ∷ replicate 7 0) ++ map ++ headed 0xFB 16
+
 -- the book of S: two records of 16 bytes
 abbrev pub B : List ℕ
 B =
@@ -69,6 +73,9 @@ pub record Computed : Type 0 where
   pub wrong-sought : stream.seekOf reformed 1 0 ≡ seek.Refused (refusal 29 103)
   pub wrong-built : builder.buildAnswer (room 33) reformed ≡ build.Refused (refusal 29 103)
   pub wrong-first : stream.checkOf (deformed ++ headed 0xFD 16 ++ headed 0xFB 16) ≡ check.Refused (refusal 29 43)
+  -- and before 19, which the same packet would be refused with
+  pub wrong-due : stream.checkOf (due deformed) ≡ check.Refused (refusal 29 127)
+  pub right-due : stream.checkOf (due M) ≡ check.Refused (refusal 19 84)
   -- seek: each field where it lies, and 16 for a field, or a track, that is not there; the check's refusal first
   pub field-0 : stream.seekOf S 1 0 ≡ seek.At 60
   pub field-1 : stream.seekOf S 1 1 ≡ seek.At 92
