@@ -147,7 +147,7 @@ encoded-bytes p b =
     bytes-join (front n (p .spare) (p .second)) (sectionBytes m t ++ replicate z 0) f (bytes-join (sectionBytes m t) (replicate z 0) s (bytes-zeros z))
 
 -- an accepted map is one that the walk accepts
-whole-part : (m : List ℕ) (n : ℕ) → n ≡ length m → part 0 (0 + n) m ≡ m
+pub whole-part : (m : List ℕ) (n : ℕ) → n ≡ length m → part 0 (0 + n) m ≡ m
 whole-part m n e = take-all (0 + n - 0) m (omega arith)
 
 pub accepted-verdict : (m : List ℕ) → Accepted m → mapVerdict m ≡ verdict.Accepted

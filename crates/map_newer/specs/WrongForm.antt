@@ -2,9 +2,13 @@
 use Prim.Native.Nat.{ℕ}
 use mathlib.Core.Path.{_≡_}
 use mathlib.Core.List.{List}
+use lib.ListN.{length}
+use Rattle.plate.specs.Plate.{refusal}
+use Rattle.number.specs.Number.{be}
 use Rattle.map_items.specs.Items.{Item}
 use Rattle.map_items.specs.Judge.{bad}
-use Rattle.map.specs.Map.{mapVerdict}
+use Rattle.map.specs.Map.{mapVerdict, mapAt}
+use Rattle.map.specs.declared.MapAnswer.the-variants.{Refused}
 use Rattle.map_newer.specs.Demand.{Bytes, There, Unknown, Room}
 use Rattle.map_newer.specs.Strike.{strike, Boundary, setIn}
 
@@ -12,6 +16,12 @@ use Rattle.map_newer.specs.Strike.{strike, Boundary, setIn}
 abbrev pub Refused29 : List ℕ → Type 0
 Refused29 m = (q : ℕ) × (mapVerdict m ≡ bad 29 q)
 
+-- a map packet that the reader refuses with 29: the bytes of one packet, as many as its header states
+pub record Wrong (m : List ℕ) : Type 0 where
+  pub alone : be m 6 4 ≡ length m
+  pub place : ℕ
+  pub read : mapAt m 0 ≡ Refused (refusal 29 place)
+
 pub record StaysWrong : Type 0 where
-  pub struck : (m : List ℕ) → Bytes m → Refused29 m → Refused29 (strike m)
-  pub set-in : (m : List ℕ) → Bytes m → Refused29 m → (b : Boundary) (i : Item) → There b m → Unknown b i → Room b i m → Refused29 (setIn b i m)
+  pub struck : (m : List ℕ) → Bytes m → Refused29 m → Wrong (strike m)
+  pub set-in : (m : List ℕ) → Bytes m → Refused29 m → (b : Boundary) (i : Item) → There b m → Unknown b i → Room b i m → Wrong (setIn b i m)

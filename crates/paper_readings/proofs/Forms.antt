@@ -25,4 +25,4 @@ forms-agree = (refl, (refl, (refl, (refl, (refl, (refl, (refl, (refl, (refl, (re
 
 pub given-agree : Agree given
 unfolding given mapAnswer anyWrong givenWrong wrongForm mpegType faultOf slotsFault slotFault fits reads isText isEight isCode codeFits answer.allowed judge.has textOk knownType tracksFault ownFault barred nullName faults.given idsFault idFault slots tracksFrom mapPacket partsGiven itemsOf slotValue encode.encode encode.packetOf encode.front encode.sectionBytes encode.packetLength encode.padding encode.described items.itemsBytes tracks.descriptionsBytes beBytes
-given-agree = (refl, (refl, (refl, (refl, (refl, (refl, (refl, (refl, (refl, (refl, (refl, (refl, (refl, (refl, (refl, tt)))))))))))))))
+given-agree = (refl, (refl, (refl, (refl, (refl, (refl, (refl, (refl, (refl, (refl, (refl, (refl, (refl, (refl, (refl, (refl, (refl, tt)))))))))))))))))

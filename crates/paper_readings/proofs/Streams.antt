@@ -46,6 +46,7 @@ computed =
       wrong-checked = refl;
       wrong-sought = refl;
       wrong-built = refl;
+      before-wrong = refl;
       wrong-first = refl;
       wrong-due = refl;
       right-due = refl;

@@ -94,10 +94,10 @@ hidden s mediaType at =
 
 unfoldable pub forms : List Reading
 forms =
-    -- M is what these maps are made from; with `4F 02 41 00` behind the rate it has 48 bytes
+    -- of its name and its rate `with` makes M; with `4F 02 41 00` behind the rate it has 48 bytes
     record { Answer = List ℕ; gives = with 0x8A (name ++ rate); says = M }
     ∷ record { Answer = ℕ; gives = length (with 0x8A (name ++ rate ++ mpeg)); says = 48 }
-    -- that is 29 at 43, counted from the packet's start wherever it stands in the lent bytes; the record of its track is refused so too, and a name, of one map and of two, the opening one first
+    -- that is 29 at 43, counted from the packet's start, at 60 of the lent bytes too; the record of its track is refused so, and a name, of one map and of two, the opening one first
     ∷ wrong (with 0x8A (name ++ rate ++ mpeg)) 43
     ∷ record { Answer = MapAnswer; gives = map.mapAt (replicate 60 7 ++ with 0x8A (name ++ rate ++ mpeg)) 60; says = map-answer.Refused (refusal 29 43) }
     ∷ record { Answer = TrackAnswer; gives = map.trackAt (with 0x8A (name ++ rate ++ mpeg)) 0 0; says = track-answer.Refused (refusal 29 43) }
@@ -157,11 +157,11 @@ forms =
     ∷ wrong (tracked (track 0x8A 0xC1 rate ++ track 0x93 0xC2 aux ++ track 0x8A 0xC3 mpeg ++ track 0x8B 0xC4 aux)) 56
     ∷ []
 
--- what the map writer says of tracks, in a buffer of so many bytes
+-- what the map writer says of a lent text and tracks, in a buffer of so many bytes
 abbrev writing : ℕ → List ℕ → List ℕ → WriteAnswer → Reading
-writing n words ts a = record { Answer = WriteAnswer; gives = writer.mapAnswer (replicate n 7) 0 words (material 0) ts; says = a }
+writing n lent ts a = record { Answer = WriteAnswer; gives = writer.mapAnswer (replicate n 7) 0 lent (material 0) ts; says = a }
 
--- a track that is given a 4D and a 4F
+-- a track without a name, with slots for a 4D and a 4F
 abbrev formed : ℕ → ℕ → List ℕ → List ℕ → List ℕ
 formed mediaType id aux mpeg = (mediaType ∷ id ∷ []) ++ absent ++ aux ++ absent ++ mpeg ++ replicate 9 0
 
@@ -171,7 +171,7 @@ eight = replicate 8 1
 
 unfoldable pub given : List Reading
 given =
-    -- a 4F on types 10, 21 and 24, a 4D on 11 and 23: 29, without room and with it; with the right one it is the room alone that lacks
+    -- a 4F on types 10, 21 and 24, a 4D on 11 and 23: 29 without room, and on 10 with it; with the right one the room alone lacks, and with 40 bytes it is written
     writing 0 text (formed 10 1 absent (at 0 2)) (refused 29)
     ∷ writing 100 text (formed 10 1 absent (at 0 2)) (refused 29)
     ∷ writing 0 text (formed 21 1 absent (at 0 2)) (refused 29)
@@ -186,7 +186,9 @@ given =
     ∷ writing 0 (0x41 ∷ 0x80 ∷ []) (formed 10 1 absent (at 0 1) ++ trackGiven 10 2 (at 0 2) absent) (refused 11)
     ∷ writing 0 text (formed 10 1 absent (at 0 2) ++ trackGiven 10 1 absent absent) (refused 10)
     ∷ writing 0 text (trackGiven 10 1 absent absent ++ formed 10 2 absent (at 0 2)) (refused 29)
-    -- beside a null name either form is 24, right or wrong
+    -- beside a null name either form is 24 on either type
     ∷ writing 0 text ((10 ∷ 1 ∷ []) ++ at 0 0 ++ absent ++ absent ++ at 0 2 ++ replicate 9 0) (refused 24)
+    ∷ writing 0 text ((11 ∷ 1 ∷ []) ++ at 0 0 ++ absent ++ absent ++ at 0 2 ++ replicate 9 0) (refused 24)
+    ∷ writing 0 eight ((10 ∷ 1 ∷ []) ++ at 0 0 ++ at 0 8 ++ replicate 15 0) (refused 24)
     ∷ writing 0 eight ((11 ∷ 1 ∷ []) ++ at 0 0 ++ at 0 8 ++ replicate 15 0) (refused 24)
     ∷ []

@@ -68,12 +68,13 @@ pub record Computed : Type 0 where
   -- a first packet that is torn and no map: 5 before 17
   pub torn-first : stream.checkOf (headed 0xFD 20 ++ replicate 3 0) ≡ check.Refused (torn 0 1)
   pub no-map-first : stream.checkOf (headed 0xFD 20 ++ replicate 4 0) ≡ check.Refused (refusal 17 0)
-  -- a second map with the wrong form, at 60: 29 at its tag, 43 behind that, to check, seek and builder alike; as the first map, at 43
+  -- a second map with the wrong form, at 60: 29 at its tag, 43 behind that, to check, seek and builder alike; the bytes before it only run out; as the first map, at 43
   pub wrong-checked : stream.checkOf reformed ≡ check.Refused (refusal 29 103)
   pub wrong-sought : stream.seekOf reformed 1 0 ≡ seek.Refused (refusal 29 103)
   pub wrong-built : builder.buildAnswer (room 33) reformed ≡ build.Refused (refusal 29 103)
+  pub before-wrong : stream.checkOf (take 60 reformed) ≡ check.Refused (refusal 18 60)
   pub wrong-first : stream.checkOf (deformed ++ headed 0xFD 16 ++ headed 0xFB 16) ≡ check.Refused (refusal 29 43)
-  -- and before 19, which the same packet would be refused with
+  -- and before 19, which another map there is refused with
   pub wrong-due : stream.checkOf (due deformed) ≡ check.Refused (refusal 29 127)
   pub right-due : stream.checkOf (due M) ≡ check.Refused (refusal 19 84)
   -- seek: each field where it lies, and 16 for a field, or a track, that is not there; the check's refusal first

@@ -114,13 +114,13 @@ wrong-forms =
       closing = λ a b id m e r n x g. place-of-two-is a b id x g ∙ closing-refused a b id m e r n;
       read-only = λ s at r g n. only s at r (sym (map-is s at _ g)) n;
       check = λ s r g n. check-29 s r (sym (check-is s _ g)) n;
-      check-there = λ s n e before x after m z begun len h own v y g. check-is z y g ∙ map-there s n e before x after m z begun len h own v;
+      check-there = λ s at len e h own v x g. check-is s x g ∙ map-there s at len e h own v;
       check-first = λ s len r h v x g. check-is s x g ∙ first-map s len r h v;
       check-numbers = λ s r g. check-number s r (sym (check-is s _ g));
       writer = writer-form;
       writes-other = λ out at text ms ts h x o g. let e = map-written-is out at text ms ts x o g in let w = faulty out at text ms ts (faultOf text ms ts) refl h in (e .0 ∙ w .0, e .1 ∙ w .1);
       writes-none = λ out at text ms ts f n x o g. let e = map-written-is out at text ms ts x o g in let w = wrong-formed out at text ms ts f n in (e .0 ∙ w .0, e .1 ∙ w .1);
-      stays = stays-wrong;
       struck = struck-form;
       set-in = set-form;
+      stays = stays-wrong;
     }

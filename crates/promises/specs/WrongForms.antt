@@ -4,7 +4,6 @@ use Prim.Native.Nat.{ℕ, _+_}
 use mathlib.Core.Path.{_≡_}
 use mathlib.Core.Bool.{true, false}
 use mathlib.Core.List.{List}
-use lib.ListN.{take}
 use Rattle.plate.specs.Part.{part}
 use Rattle.plate.specs.declared.Refusal.{Refusal}
 use Rattle.packet.specs.Packet.{typeMap, packetAt}
@@ -60,18 +59,18 @@ pub record WrongForms : Type 0 where
   -- the readings of the request, and its place in the order: of maps, and of what the writer is given
   pub read-so : Agree forms
   pub given-so : Agree given
-  -- what a map is refused with, its readers are, the place counted from the packet's start: the reader, a track by its number, before 16, all records, before 13, and a name; of two maps the opening one's refusal goes first, then the closing one's
+  -- what a map is refused with, its readers are, the place counted from the packet's start: the reader, a track by its number, before 16, all records, before 13, and a name's place; of two maps the opening one's refusal goes first, then the closing one's
   pub read : (s : List ℕ) (at : ℕ) (r : Refusal) → MapRefused s at r → (x : MapAnswer) → ReadsMap s at x → x ≡ map-answer.Refused r
   pub track : (s : List ℕ) (at k : ℕ) (r : Refusal) → MapRefused s at r → (x : TrackAnswer) → ReadsTrack s at k x → x ≡ track-answer.Refused r
   pub fill : (s : List ℕ) (at : ℕ) (r : Refusal) → MapRefused s at r → (ys zs : List Track) (x : MapAnswer) → Filled ys s at x zs → (x ≡ map-answer.Refused r) × (zs ≡ ys)
   pub name : (s : List ℕ) (id : ℕ) (r : Refusal) → MapRefused s 0 r → (x : NameAnswer) → Places s id x → x ≡ name-answer.Refused r
   pub opening : (a b : List ℕ) (id : ℕ) (r : Refusal) → MapRefused a 0 r → (x : TwoAnswer) → PlacesOfTwo a b id x → x ≡ two-answer.Refused r
   pub closing : (a b : List ℕ) (id : ℕ) (m : MapSays) → mapAt a 0 ≡ map-answer.Says m → (r : Refusal) → MapRefused b 0 r → (x : TwoAnswer) → PlacesOfTwo a b id x → x ≡ two-answer.Refused r
-  -- and a reader's 29 is no other's: it is that of the map which stands there
+  -- and the map reader's own 29 is no other's: it is that of the map which stands there
   pub read-only : (s : List ℕ) (at : ℕ) (r : Refusal) → ReadsMap s at (map-answer.Refused r) → r .number ≡ 29 → MapRefused s at r
   -- the check: a 29 is that of the map at which the packets stop, its offset added
   pub check : (s : List ℕ) (r : Refusal) → Checks s (check-answer.Refused r) → r .number ≡ 29 → StreamWrongForm s r
-  -- and what a map is refused with the stream is, its offset added, wherever the packets before it are those of an accepted stream; the opening map's, whatever follows
+  -- and what a map is refused with the stream is, its offset added and whatever follows, where the bytes before it have no fault but that they run out, and where it opens the stream
   pub check-there : MapThere CheckGives
   pub check-first : FirstMap CheckGives
   -- a check's refusals are 1 to 5, 7 to 12, 14, 15, 17 to 22 and 29
@@ -81,7 +80,7 @@ pub record WrongForms : Type 0 where
   pub writes-other : (out : List ℕ) (at : ℕ) (text ms ts : List ℕ) → (faultOf text ms ts ≡ 0 → ⊥) → (x : WriteAnswer) (o : List ℕ) → WritesMap out at text ms ts x o → (x ≡ refused (faultOf text ms ts)) × (o ≡ out)
   pub writes-none : (out : List ℕ) (at : ℕ) (text ms ts : List ℕ) → faultOf text ms ts ≡ 0 → anyWrong (tracksGiven ts) ≡ true → (x : WriteAnswer) (o : List ℕ) → WritesMap out at text ms ts x o → (x ≡ refused 29) × (o ≡ out)
   -- struck or set in, what the reader doesn't know neither brings the wrong form to a track nor takes it away; so a map that is refused with 29 stays refused with 29, as one that is accepted stays accepted (`NewerMaps`)
-  pub stays : StaysWrong
   pub struck : (typeByte : ℕ) (is : List Item) → (trackOver typeByte (kept trackStays is) 0 ≡ verdict.Accepted → trackOver typeByte is 0 ≡ verdict.Accepted) × (trackOver typeByte is 0 ≡ verdict.Accepted → trackOver typeByte (kept trackStays is) 0 ≡ verdict.Accepted)
   pub set-in : (typeByte k : ℕ) (i : Item) (is : List Item) → isKnown (formOf section.Track (i .tag)) ≡ false
       → (trackOver typeByte (setAt k i is) 0 ≡ verdict.Accepted → trackOver typeByte is 0 ≡ verdict.Accepted) × (trackOver typeByte is 0 ≡ verdict.Accepted → trackOver typeByte (setAt k i is) 0 ≡ verdict.Accepted)
+  pub stays : StaysWrong

@@ -1,11 +1,12 @@
--- A stream's 29 is that of a map in it; and the refusal of the map that opens it is the stream's.
+-- A stream's 29 is that of a map in it; the refusal of a map in a stream, behind bytes that only run out or at the start, is the stream's; and which numbers a check can give.
 use Prim.Native.Nat.{ℕ, zero, suc, _+_, _<_}
 use mathlib.Core.Path.{_≡_, refl, sym, _∙_, ap, subst}
 use mathlib.Core.Bool.{Bool, true, false}
 use mathlib.Core.List.{List, [], _∷_}
 use native.Mathlib.Omega.{arith}
 use native.Mathlib.Nat.{add-zero}
-use lib.ListN.{length, getD, take, drop, replicate}
+use lib.ListN.{length, getD, take, drop, replicate, length-drop, take-append-drop}
+use lib.Seq.{length-take-le}
 use lib.Dec.{ltb, eqb}
 use borrow.Author.Tests.{lt-ltb}
 use Rattle.plate.specs.Choice.{pick}
@@ -28,7 +29,7 @@ use Rattle.stream.specs.Stream.{Placed, End, closed, runsOut, stops, typ
 use Rattle.stream.specs.WrongForm.{CheckNumber, StreamWrongForm, MapThere, FirstMap}
 use Rattle.stream.specs.declared.CheckAnswer.the-variants as check
 use Rattle.stream.specs.Lacking.{CheckRefuses, bytesOf}
-use Rattle.stream.proofs.Begun.{refused-there}
+use Rattle.stream.proofs.RunsOut.{refused-behind}
 use Rattle.stream.proofs.Numbers.{fault-number, OfCheck, out-numbers, check-numbers}
 
 not-out : {X : Type 0} (r : Refusal) → r .number ≡ 29 → (count n : ℕ) → check.Refused (ranOut count n) ≡ check.Refused r → X
@@ -92,14 +93,16 @@ check-29 s r e k =
       place = ap (λ (x : Refusal). x .place) (w .place);
     }
 
--- a map behind the packets of an accepted stream
+-- a map behind bytes that only run out
 pub map-there : MapThere CheckRefuses
 unfolding pieceAt contentOf opens
-map-there s n e before x after m z begun len h own v =
-    let w = whole z (x .at) (record { «packet_type» = 0xBC; len = len }) h in
-    refused-there s x after z begun n e before m (moved (x .at) own) (λ t. (omega (arith, w .least, w .within), λ first. rw h (go first)))
+map-there s at len e h own v =
+    let w = whole s at (record { «packet_type» = 0xBC; len = len }) h in
+    let n : length (take at s) ≡ at = length-take-le at s (omega (arith, w .least, w .within)) in
+    let r = refused-behind (take at s) (drop at s) (rw n e) (omega (arith, length-drop at s, w .least, w .within)) (moved at own) (λ first. rw (take-append-drop at s, n, h) (go first)) in
+    rw (take-append-drop at s) at r
   where
-    go : (first : Bool) → pick (opens first 0xBC) (ofMap (x .at) (length (take len (drop (x .at) z))) (mapVerdict (take len (drop (x .at) z)))) (piece.Refused (refusal 17 (x .at))) ≡ piece.Refused (moved (x .at) own)
+    go : (first : Bool) → pick (opens first 0xBC) (ofMap at (length (take len (drop at s))) (mapVerdict (take len (drop at s)))) (piece.Refused (refusal 17 at)) ≡ piece.Refused (moved at own)
     go true = rw v
     go false = rw v
 

@@ -1,16 +1,16 @@
--- A stream that is refused with 29 (02, §12): it stops at a map with the wrong form, behind the packets that passed, and the place is the map's own with that map's offset added. Proved in proofs/WrongForm.antt.
+-- A stream that is refused with 29 (02, §12): it stops at a map with the wrong form, behind the packets that passed, and the place is the map's own with that map's offset added. The other way, what a map in a stream is refused with the stream is. And which numbers a check can give. Proved in proofs/WrongForm.antt.
 use Prim.Native.Nat.{ℕ, _+_, _≤_}
 use mathlib.Core.Path.{_≡_}
-use mathlib.Core.List.{List, _∷_, _++_}
+use mathlib.Core.List.{List}
 use mathlib.Core.Logic.{_⊎_}
 use lib.ListN.{take, drop}
-use Rattle.plate.specs.Plate.{placed}
+use Rattle.plate.specs.Plate.{refusal, placed}
 use Rattle.plate.specs.declared.Refusal.{Refusal}
 use Rattle.packet.specs.Packet.{typeMap, headerAt}
 use Rattle.packet.specs.declared.PacketAnswer.the-variants as packet
 use Rattle.map_items.specs.declared.Verdict.the-variants as verdict
 use Rattle.map.specs.Map.{mapVerdict}
-use Rattle.stream.specs.Stream.{Placed, stops, packets, checkOf}
+use Rattle.stream.specs.Stream.{stops, packets, checkOf}
 use Rattle.stream.specs.Lacking.{bytesOf}
 use Rattle.stream.specs.declared.CheckAnswer.the-variants as check
 
@@ -30,12 +30,11 @@ pub record StreamWrongForm (s : List ℕ) (r : Refusal) : Type 0 where
   pub number : own .number ≡ 29
   pub place : r .place ≡ own .place + bytesOf (packets s .list)
 
--- the other way: bytes z that begin as an accepted stream does, up to one of its packets, and have a whole map there, are refused with what that map is refused with, its offset added, whatever stands behind it
+-- the other way: where the bytes before a whole map have no fault but that they run out, the stream is refused with what the map is refused with, its offset added, whatever stands behind it
 abbrev pub MapThere : (List ℕ → Refusal → Type 0) → Type 0
 MapThere Refuses =
-    (s : List ℕ) (n : ℕ) → checkOf s ≡ check.Packets n → (before : List Placed) (x : Placed) (after : List Placed) → packets s .list ≡ before ++ (x ∷ after)
-    → (z : List ℕ) → take (x .at) z ≡ take (x .at) s → (len : ℕ) → headerAt z (x .at) ≡ packet.Whole (record { «packet_type» = typeMap; len = len })
-    → (own : Refusal) → mapVerdict (take len (drop (x .at) z)) ≡ verdict.Refused own → Refuses z (placed own (own .place + x .at))
+    (s : List ℕ) (at len : ℕ) → checkOf (take at s) ≡ check.Refused (refusal 18 at) → headerAt s at ≡ packet.Whole (record { «packet_type» = typeMap; len = len })
+    → (own : Refusal) → mapVerdict (take len (drop at s)) ≡ verdict.Refused own → Refuses s (placed own (own .place + at))
 
 -- whatever the map that opens a stream is refused with, its header being whole, the stream is
 abbrev pub FirstMap : (List ℕ → Refusal → Type 0) → Type 0
