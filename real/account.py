@@ -4,6 +4,8 @@ from typing import NamedTuple
 
 from library import LIMIT, Preamble, Refused, content
 
+ASPECT = {0: "4x3", 1: "16x9", None: "unknown"}
+
 
 class Told(NamedTuple):
     path: str
@@ -71,7 +73,7 @@ def first_media_line(told, track):
 
 
 def track_lines(library, told, track):
-    codes = f"rate {optional(track.rate)}, lines {optional(track.lines)}, fields {optional(track.fields)}"
+    codes = f"rate {optional(track.rate)}, lines {optional(track.lines)}, fields {optional(track.fields)}, aspect {ASPECT[track.aspect]}"
     aux = ", 4D " + bytes_at(told.lent, track.aux).hex(" ") if track.aux else ""
     yield f"track {track.id}: type {track.type}, {codes}, version {optional(track.version)}, {told.names[track.id]}{aux}"
     yield "  " + first_media_line(told, track)

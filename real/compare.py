@@ -5,7 +5,7 @@ from fractions import Fraction
 from typing import NamedTuple
 
 import reader
-from account import bytes_at
+from account import ASPECT, bytes_at
 from library import Preamble, Refused
 
 # Table 5: media type to the name that ffmpeg has for the coding
@@ -20,6 +20,8 @@ LINES = {1: 525, 2: 625, 4: 1080, 6: 720}
 SYSTEM = {480: 525, 512: 525, 576: 625, 608: 625, 1080: 1080, 720: 720}
 UMF = ("timecode_at_mark_in", "timecode_at_mark_out")
 TIME_TAGS = ("timecode", *UMF)
+# Tables 8 and 9: media type to the bit of the 4D that is the aspect
+ASPECT_BIT = {13: 4, 14: 4, 15: 0, 16: 0}
 # Table 7: Cf to ffmpeg's names of 4:2:0 and 4:2:2
 CHROMA = {"1": "yuv420p", "2": "yuv422p"}
 
@@ -83,7 +85,28 @@ def text(stream, parameters):
     elif parameters is not None:
         yield Found("encoded lines", 16 * int(parameters["nl16"]), stream.get("height"))
         yield Found("colour", CHROMA[parameters["Cf"]], stream.get("pix_fmt"))
-        yield Found("aspect", "16:9" if parameters["ar"] == "1" else "4:3", stream.get("display_aspect_ratio"), "aspect" if parameters["ar"] == "0" else "")
+
+
+def left_out(told, track):
+    """What explains that a record does not have the pictures' aspect: the map has no place for it, the text no `ar`, or the valid 4D its bit not set."""
+    if track.type in JPEG and track.aspect is None:
+        return "no-aspect"
+    if track.aspect != 0:
+        return ""
+    if track.type in MPEG and track.text:
+        return "" if b"\nar " in b"\n" + bytes_at(told.lent, track.text) else "aspect"
+    if track.type in ASPECT_BIT and track.aux:
+        bits = int.from_bytes(bytes_at(told.lent, track.aux), "little")
+        is_set = bits >> ASPECT_BIT[track.type] & 1
+        return "dv-aspect" if bits >> 30 & 3 == 1 and not is_set else ""
+    return ""
+
+
+def aspect(told, track, stream):
+    """The record's aspect against the one that ffprobe found in the pictures, where either says one."""
+    theirs = stream.get("display_aspect_ratio")
+    if track.aspect is not None or theirs is not None:
+        yield Found("aspect", ASPECT[track.aspect].replace("x", ":"), theirs, left_out(told, track))
 
 
 def extent(chart, stream):
@@ -100,7 +123,7 @@ def by_track(told, read):
     for track, stream in zip(chart.tracks, read.streams):
         durations = {p["duration"] for p in read.packets if p["stream_index"] == stream["index"] and "duration" in p}
         for found in (*coding(track, stream), *rates(track, stream, durations), *raster(track, stream), *text(stream, told.texts.get(track.id)),
-                      *extent(chart, stream)):
+                      *aspect(told, track, stream), *extent(chart, stream)):
             yield found._replace(track=track.id)
 
 

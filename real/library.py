@@ -44,6 +44,7 @@ class Track(NamedTuple):
     name: Optional[tuple]     # place and stored length, as of the two below
     aux: Optional[tuple]
     text: Optional[tuple]
+    aspect: Optional[int]     # 0 is 4x3, 1 is 16x9, nothing is unknown
 
 
 class Map(NamedTuple):
@@ -96,7 +97,7 @@ def map_of(tokens):
     tracks = []
     for _ in range(count):
         next(words)
-        tracks.append(Track(*[figure(words) for _ in range(6)], *[part(words) for _ in range(3)]))
+        tracks.append(Track(*[figure(words) for _ in range(6)], *[part(words) for _ in range(3)], figure(words)))
     return Map(*material, tracks)
 
 

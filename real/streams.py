@@ -40,6 +40,8 @@ STREAMS = [
     Stream("ntsc_dv25", "DV 25 Mb/s, 525 lines", GREY + NTSC, 0, "-c:v dvvideo -pix_fmt yuv411p -frames:v 2"),
     Stream("pal_dv50", "DV 50 Mb/s, 625 lines", GREY + PAL, 0, "-c:v dvvideo -pix_fmt yuv422p -frames:v 1"),
     Stream("ntsc_dv50", "DV 50 Mb/s, 525 lines", GREY + NTSC, 0, "-c:v dvvideo -pix_fmt yuv422p -frames:v 1"),
+    Stream("pal_dv25_wide", "DV 25 Mb/s, 625 lines, 16:9", GREY + PAL, 0, "-c:v dvvideo -pix_fmt yuv420p -aspect 16:9 -frames:v 1"),
+    Stream("ntsc_dv50_wide", "DV 50 Mb/s, 525 lines, 16:9", GREY + NTSC, 0, "-c:v dvvideo -pix_fmt yuv422p -aspect 16:9 -frames:v 1"),
     Stream("pal_audio", "MPEG-2, 625 lines, one audio track, one second", GREY + PAL, 1, f"{MPEG2} -t 1"),
     Stream("ntsc_audio_4", "MPEG-2, 525 lines, four audio tracks", GREY + NTSC, 4, f"{MPEG2} -t 0.5"),
     Stream("audio_only", "one audio track and no picture, one second", "", 1, "-t 1"),

@@ -1,7 +1,7 @@
 #!/usr/bin/env python3
 """twins.py: makes the maps that the program `twins` reads, and the lines that it must write.
 Each map has a twin: the same map without what document 01 leaves unknown or reserved. Maps are made from items and tracks; a twin
-is also found a second way, by taking the map's bytes apart, and the two must agree. It is written from document 01 and §12 of 02 alone.
+is also found a second way, by taking the map's bytes apart, and the two must agree. It is written from document 01 and §11 and §12 of 02 alone.
 Same seed, same files: crates/twins/data/*.gxf, crates/twins/stdout, and some of the pairs as a table for the checker, crates/map_newer/proofs/Outside.antt.
 Run `rt fmt` afterwards."""
 import os, random, struct
@@ -22,6 +22,44 @@ def some_bytes(n):
 def text(n=None):
     """a text with its closing 00"""
     return bytes(R.randrange(1, 128) for _ in range(R.choice([1, 2, 5, 12, 30]) if n is None else n)) + b'\0'
+
+TEXT = 'Ver 1|Br 0.5|Ipg 1|Ppi 4|Bpiop 2|Pix 0|Cf 1|Cg 0|Sl 7|nl16 36|Vi 1|f1 1'.split('|')
+NUMBERS = {}  # of each text that the auxiliary reader takes, the number of its aspect; any other text here lacks parameters
+
+def auxiliary():
+    """a text that has every parameter, its lines in any order, with or without `ar`; or one that is malformed at its end"""
+    ar = R.choice([None, 0, 1, 1, 7])
+    lines = TEXT + ([] if ar is None else ['ar %d' % ar])
+    R.shuffle(lines)
+    v = ''.join(x + '\n' for x in lines).encode()
+    if R.random() < .2:
+        return v[:-1] + b'\0'
+    NUMBERS[v + b'\0'] = 1 if ar == 1 else 0
+    return v + b'\0'
+
+def binary():
+    """a 4D, its validity often 1"""
+    v = bytearray(some_bytes(8))
+    if R.random() < .6:
+        v[3] = 0x40 + R.randrange(0x40)
+    return bytes(v)
+
+def aspect(kind, items):
+    """4x3, 16x9 or - for unknown, as document 02 has it"""
+    shown = {tag: v for tag, v, _ in items if tag in TRACK_TAGS}
+    if shown.get(0x4C) == b'\0':
+        return '-'
+    n = None
+    if kind in MPEG:
+        n = NUMBERS.get(shown.get(0x4F))
+    elif kind in (13, 14, 15, 16) and 0x4D in shown:
+        bits = int.from_bytes(shown[0x4D], 'little')
+        if bits >> 30 & 3 == 1:
+            n = bits >> (4 if kind < 15 else 0) & 1
+    return {None: '-', 0: '4x3', 1: '16x9'}[n]
+
+def aspects(a):
+    return ''.join(' ' + aspect(k, items) for k, _, items in a[3] if k in TYPES)
 
 def number():
     return struct.pack('>I', R.choice([0, 1, R.randrange(1 << 32), 0xFFFFFFFF]))
@@ -68,9 +106,9 @@ def track_items(kind, strange):
         # 4F for MPEG video and 4D for the rest; unlisted tracks, and those with a null name, may have either
         form = 0x4F if kind in MPEG else 0x4D
     if form == 0x4D:
-        items.append((0x4D, some_bytes(8), True))
+        items.append((0x4D, binary(), True))
     if form == 0x4F:
-        items.append((0x4F, b'\0' if R.random() < .2 else text(), True))
+        items.append((0x4F, R.choice([b'\0', text(), auxiliary(), auxiliary(), auxiliary()]), True))
     if R.random() < .4:
         items.append((0x4E, number(), True))
     for tag in (0x50, 0x51, 0x52):
@@ -85,7 +123,7 @@ def a_map(strange=True):
     tracks = []
     for i in ids:
         known = not strange or R.random() < .7
-        kind = R.choice(TYPES) if known else R.choice([t for t in range(128) if t not in TYPES])
+        kind = R.choice(TYPES + MPEG + [13, 14, 15, 16]) if known else R.choice([t for t in range(128) if t not in TYPES])
         tracks.append((kind, i, [] if R.random() < .15 else track_items(kind, strange)))
     return (some_bytes(4), R.randrange(256), [] if R.random() < .1 else material(strange), tracks)
 
@@ -139,8 +177,9 @@ def struck_bytes(p):
 def listed(a):
     return sum(1 for k, _, _ in a[3] if k in TYPES)
 
-def line(name, p, q, n, alike):
-    return '%s: %d and %d bytes, %d tracks, %s\n' % (name, len(p), len(q), n, 'alike' if alike else 'unlike')
+def line(name, p, q, a, b, alike):
+    """of the packets p and q of the maps a and b"""
+    return '%s: %d and %d bytes, %d tracks, %s:%s and%s\n' % (name, len(p), len(q), listed(a), 'alike' if alike else 'unlike', aspects(a), aspects(b))
 
 def pairs(count):
     """maps and their twins"""
@@ -152,7 +191,7 @@ def pairs(count):
         assert q == struck_bytes(p) and struck_bytes(q) == q, k
         out += p + q
         packets.append((p, q))
-        said += line('pair %d' % (k + 1), p, q, listed(a), True)
+        said += line('pair %d' % (k + 1), p, q, a, struck(a), True)
     return out, said, packets
 
 def full():
@@ -162,7 +201,7 @@ def full():
     a = (bytes(4), 0xFF, m, [(10, 1, [(0x4C, b'A1\0', True)])])
     p, q = written(a), written(struck(a))
     assert q == struck_bytes(p)
-    return p + q, line('pair 1', p, q, 1, True)
+    return p + q, line('pair 1', p, q, a, struck(a), True)
 
 HEAD = """-- Maps and twins that were made outside (tools/twins.py): the twin is what `strike` leaves of the map, to the byte. Computed by the checker.
 use Prim.Native.Nat.{ℕ}
@@ -234,12 +273,25 @@ def controls():
         (bytes(4), 0xFF, m, [(11, 2, u), (10, 1, t)]), (bytes(4), 0xFF, m, [(10, 1, t)]), (bytes(4), 0xFF, m, [(10, 1, t), (11, 3, u)]),
         (bytes(4), 0xFF, m, [(10, 1, t), (12, 2, u)]), (bytes(4), 0xFF, m, base[3] + [(10, 7, [])]),
     ]
+    others = [(base, a) for a in others]
+
+    # the aspect's bit alone: of DV-based 25 and 50 Mb/s, and the `ar` of MPEG video
+    def dv(kind, first):
+        return (bytes(4), 0xFF, m, [(kind, 1, [name, (0x4D, bytes([first, 0, 0, 0x40]) + bytes(4), True)])])
+
+    def mpeg_video(ar):
+        v = ''.join(x + '\n' for x in TEXT + ['ar %d' % ar]).encode() + b'\0'
+        NUMBERS[v] = ar
+        return (bytes(4), 0xFF, m, [(11, 1, [name, (0x4F, v, True)])])
+
+    others += [(dv(13, 0), dv(13, 16)), (dv(14, 16), dv(14, 0)), (dv(15, 0), dv(15, 1)), (dv(16, 1), dv(16, 0)), (mpeg_video(0), mpeg_video(1))]
+    for a, b in others[-5:]:
+        assert aspects(a) != aspects(b) and {aspects(a), aspects(b)} == {' 4x3', ' 16x9'}
     out, said = b'', ''
-    p = written(base)
-    for k, a in enumerate(others):
-        q = written(a)
+    for k, (a, b) in enumerate(others):
+        p, q = written(a), written(b)
         out += p + q
-        said += line('control %d' % (k + 1), p, q, 2, False)
+        said += line('control %d' % (k + 1), p, q, a, b, False)
     return out, said
 
 def main():

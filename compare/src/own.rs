@@ -1,6 +1,8 @@
 //! The second implementation held against itself: against what the generators know of their cases, and against other ways to the
 //! same answer.
 
+mod aspects;
+
 use crate::generate::maps::{self, Item, Model, M};
 use crate::generate::{case, packets, streams, writers, Case};
 use crate::reference::header::header;
@@ -225,8 +227,8 @@ pub fn alike(one: (&[u8], &Answer<Map>), two: (&[u8], &Answer<Map>)) -> bool {
         && at(one.0, a.name) == at(two.0, b.name)
         && a.tracks.len() == b.tracks.len()
         && a.tracks.iter().zip(&b.tracks).all(|(s, t)| {
-            (s.id, s.kind, s.rate, s.lines, s.fields, s.version)
-                == (t.id, t.kind, t.rate, t.lines, t.fields, t.version)
+            (s.id, s.kind, s.rate, s.lines, s.fields, s.version, s.aspect)
+                == (t.id, t.kind, t.rate, t.lines, t.fields, t.version, t.aspect)
                 && at(one.0, s.name) == at(two.0, t.name)
                 && at(one.0, s.binary) == at(two.0, t.binary)
                 && at(one.0, s.text) == at(two.0, t.text)
@@ -509,6 +511,7 @@ pub fn run(seed: u64, cases: u64) -> Vec<Tally> {
     all.extend(sizes(seed, cases));
     all.extend(twins(seed, part));
     all.extend(forms_agree(seed, part));
+    all.extend(aspects::agree(seed, cases));
     all.extend(round_trips(seed, part));
     all.extend(streams_agree(seed, part));
     all.extend(names_agree(seed, part / 10 + 1));

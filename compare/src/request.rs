@@ -1,5 +1,6 @@
 //! Requests and lines, as docs/PROBE.md fixes them.
 
+use crate::reference::aspect::Aspect;
 use crate::reference::map::{Part, Track};
 use crate::reference::mpeg::Value;
 use crate::reference::name::Of;
@@ -174,7 +175,7 @@ fn record(record: &Option<Track>) -> String {
     match record {
         None => " kept".to_string(),
         Some(t) => format!(
-            " record {} {} {} {} {} {} {} {} {}",
+            " record {} {} {} {} {} {} {} {} {} {}",
             t.id,
             t.kind,
             item(t.rate),
@@ -183,7 +184,8 @@ fn record(record: &Option<Track>) -> String {
             item(t.version),
             part(t.name),
             part(t.binary),
-            part(t.text)
+            part(t.text),
+            item(t.aspect.map(Aspect::number))
         ),
     }
 }

@@ -1,4 +1,5 @@
-//! What a run met: cases by kind, accepted, and refused by number; of 5 also how many bytes were lacking.
+//! What a run met: cases by kind, accepted, and refused by number; of 5 also how many bytes were lacking; and the aspects of the
+//! records.
 
 use crate::reference::plate::{Refusal, PLATE};
 use std::collections::{BTreeMap, BTreeSet};
@@ -18,6 +19,21 @@ pub struct Table {
     strange: BTreeSet<u8>,
     /// How often a case that was refused with 5 lacked so many bytes.
     lacking: BTreeMap<u64, u64>,
+    /// Records by family of types and by aspect.
+    aspects: [[u64; 3]; 3],
+}
+
+/// The families of media types by which aspects are counted; of the first two every aspect must come up.
+const FAMILIES: [&str; 3] = ["DV", "MPEG", "other types"];
+const ASPECTS: [&str; 3] = ["4x3", "16x9", "unknown"];
+
+/// The number of a type's family: DV types that have an aspect, MPEG video, and all others.
+fn family(kind: u8) -> usize {
+    match kind {
+        13..=16 => 0,
+        11 | 12 | 20 | 22 | 23 => 1,
+        _ => 2,
+    }
 }
 
 /// The refusals in a line; a walker's may stand behind accepted steps.
@@ -38,6 +54,36 @@ pub fn refusals(line: &str) -> impl Iterator<Item = Refusal> + '_ {
     })
 }
 
+/// What a line says of a record as far as its aspect goes; parts are place and stored length.
+#[derive(Clone, Copy, PartialEq, Eq, Debug)]
+pub struct Record {
+    pub kind: u8,
+    pub binary: Option<(usize, usize)>,
+    pub text: Option<(usize, usize)>,
+    pub aspect: Option<u8>,
+}
+
+/// The records in a line, by its tokens: `record`, ID, type, four items, three parts, aspect.
+pub fn records(line: &str) -> impl Iterator<Item = Record> + '_ {
+    let mut words = line.split_ascii_whitespace();
+    std::iter::from_fn(move || {
+        words.find(|word| *word == "record")?;
+        let mut item = || {
+            let word = words.next().expect("a record has all its parts");
+            (word != "-").then(|| word.parse::<i64>().expect("an item is a number"))
+        };
+        let kind = [(); 6].map(|_| item())[1];
+        let mut part = || item().map(|place| (place as usize, item().unwrap_or(0) as usize));
+        let [_, binary, text] = [(); 3].map(|_| part());
+        Some(Record {
+            kind: kind.expect("a record has a type") as u8,
+            binary,
+            text,
+            aspect: item().map(|number| number as u8),
+        })
+    })
+}
+
 /// The first refusal in a line that is not on the plate.
 pub fn off_plate(line: &str) -> Option<u8> {
     let mut numbers = refusals(line).map(|refusal| refusal.number);
@@ -52,6 +98,10 @@ pub fn agree(want: &str, got: Option<&str>) -> bool {
 impl Table {
     pub fn count(&mut self, kind: &str, line: &str) {
         self.strange.extend(off_plate(line));
+        for record in records(line) {
+            let aspect = record.aspect.map_or(2, usize::from);
+            self.aspects[family(record.kind)][aspect] += 1;
+        }
         let row = self.rows.entry(kind.to_string()).or_default();
         row.cases += 1;
         match refusals(line).next() {
@@ -110,6 +160,25 @@ impl Table {
         format!("{}; most: {most}", told.join(", "))
     }
 
+    /// Records by family and aspect.
+    pub fn aspects(&self) -> String {
+        let told = FAMILIES.iter().zip(self.aspects).map(|(family, counts)| {
+            let each = ASPECTS.iter().zip(counts).map(|(a, n)| format!("{a} {n}"));
+            format!("{family}: {}", each.collect::<Vec<_>>().join(", "))
+        });
+        told.collect::<Vec<_>>().join("; ")
+    }
+
+    /// The aspects of DV and of MPEG that no record had.
+    pub fn aspects_missed(&self) -> Vec<String> {
+        let mut missed = Vec::new();
+        for (family, counts) in FAMILIES[..2].iter().zip(self.aspects) {
+            let none = ASPECTS.iter().zip(counts).filter(|(_, n)| *n == 0);
+            missed.extend(none.map(|(aspect, _)| format!("{family} {aspect}")));
+        }
+        missed
+    }
+
     pub fn print(&self) {
         println!(
             "{:<28} {:>7} {:>9}  refused (number:cases)",
@@ -120,7 +189,9 @@ impl Table {
         }
         Self::line("all", &self.all());
         println!("bytes lacking on 5 (cases): {}", self.figures());
+        println!("aspects of records: {}", self.aspects());
         println!("refusals not reached: {}", listed(&self.missed()));
+        println!("aspects not reached: {}", listed(&self.aspects_missed()));
         if !self.strange.is_empty() {
             println!("refusals not on the plate: {}", listed(&self.strange()));
         }
@@ -144,11 +215,11 @@ impl Table {
     }
 }
 
-/// Numbers with a space between them, or `none`.
-fn listed(numbers: &[u8]) -> String {
-    if numbers.is_empty() {
+/// All of them with a comma between them, or `none`.
+fn listed<T: ToString>(all: &[T]) -> String {
+    if all.is_empty() {
         return "none".to_string();
     }
-    let words: Vec<String> = numbers.iter().map(u8::to_string).collect();
-    words.join(" ")
+    let words: Vec<String> = all.iter().map(T::to_string).collect();
+    words.join(", ")
 }

@@ -24,6 +24,11 @@ fn examples() -> Vec<Request> {
     let torn_stream = [&M[..], &packet(0xFD, &[0xFF; 16])[..20]].concat();
     // an opening map that is refused inside comes before a closing one that is torn
     let other_version = packet(0xBC, &[0xE1, 0xFF, 0, 0, 0, 0]);
+    // a valid 4D with bit 4 alone, a 4F that reads, and one without its last 0A
+    let (name, null): (&[u8], &[u8]) = (b"\x4C\x03A1\0", b"\x4C\x01\0");
+    let dv = [0x4D, 8, 0x10, 0, 0, 0x40, 0, 0, 0, 0];
+    let mpeg = item(0x4F, text.as_bytes());
+    let cut = item(0x4F, &[&text.as_bytes()[..text.len() - 2], &[0]].concat());
     // M's content: first field 0; type 10, ID 1, name A1, rate −2
     let mut material = vec![0; 18];
     material[3] = 1;
@@ -39,6 +44,11 @@ fn examples() -> Vec<Request> {
         Request::new(MAP, &[0, 2], &[&M]),
         Request::new(MAP, &[0, 2], &[torn_map]),
         Request::new(MAP, &[0, 0], &[&M]),
+        Request::new(MAP, &[0, 1], &[&one_track(13, name, &dv)]),
+        Request::new(MAP, &[0, 1], &[&one_track(15, name, &dv)]),
+        Request::new(MAP, &[0, 1], &[&one_track(13, null, &dv)]),
+        Request::new(MAP, &[0, 1], &[&one_track(11, name, &mpeg)]),
+        Request::new(MAP, &[0, 1], &[&one_track(11, name, &cut)]),
         Request::new(NAME, &[0, 1], &[&M]),
         Request::new(NAME, &[0, 2], &[&M]),
         Request::new(NAME, &[4, 1], &[&[&[0xFF; 4], torn_map].concat()]),
@@ -67,6 +77,19 @@ fn examples() -> Vec<Request> {
         Request::new(WALK, &[3], &[&[&umf[..], &eos].concat()]),
         Request::new(WALK, &[2], &[&[umf, twenty].concat()]),
     ]
+}
+
+fn item(tag: u8, value: &[u8]) -> Vec<u8> {
+    [&[tag, value.len() as u8], value].concat()
+}
+
+/// A map with M's material and one track of ID 1: a name and an item more.
+fn one_track(kind: u8, name: &[u8], more: &[u8]) -> Vec<u8> {
+    let n = (name.len() + more.len()) as u8;
+    let front = [0xE0, 0xFF, 0, 6, 0x41, 4, 0, 0, 0, 0, 0, n + 4];
+    let mut payload = [&front[..], &[0x80 + kind, 0xC1, 0, n], name, more].concat();
+    payload.resize(payload.len().next_multiple_of(4), 0);
+    packet(0xBC, &payload)
 }
 
 /// Bytes in hex, some to a word, some words to a row.

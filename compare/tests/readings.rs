@@ -68,6 +68,7 @@ fn m_track() -> Track {
         name: part(34, 3),
         binary: None,
         text: None,
+        aspect: None,
     }
 }
 

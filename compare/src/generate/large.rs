@@ -1,8 +1,8 @@
 //! Inputs at the limit of the format, 65,536 bytes: lengths with their highest bit set, and long lines.
 
 use super::books::record;
-use super::maps::{Item, Model, Track, M};
-use super::packets::{media_payload, packet, refused, state_length};
+use super::maps::{form, Item, Model, Track, M};
+use super::packets::{media_payload, packet, refused, state_length, DV_TYPES, MPEG_TYPES};
 use super::Made;
 use crate::request::*;
 use crate::rng::Rng;
@@ -24,17 +24,27 @@ fn filling(mut n: usize) -> Vec<Item> {
     items
 }
 
-/// A map packet of 65,536 bytes, most of it in one section or one track; at times its last item is the wrong form.
+/// A track's type and its last item: a name, the wrong form, or one that an aspect comes from.
+fn last_item(rng: &mut Rng) -> (u8, Item) {
+    match rng.below(6) {
+        0 | 1 => (10, Item::new(0x4C, b"A1\0")),
+        2 => (10, Item::new(0x4F, b"A1\0")),
+        3 => (rng.pick(&DV_TYPES), form(rng, 0x4D)),
+        _ => (rng.pick(&MPEG_TYPES), form(rng, 0x4F)),
+    }
+}
+
+/// A map packet of 65,536 bytes, most of it in one section or one track.
 fn map(rng: &mut Rng) -> Made {
     let mut model = Model::empty();
-    let last = Item::new(rng.pick(&[0x4C, 0x4C, 0x4F]), b"A1\0");
+    let (kind, last) = last_item(rng);
+    let spare = MOST - (16 + 2 + 2 + 2 + 4 + 2 + last.value.len());
     model.tracks.push(Track {
-        type_byte: 0x8A,
+        type_byte: 0x80 + kind,
         id_byte: 0xC1,
         items: vec![last],
         overhang: 0,
     });
-    let spare = MOST - (16 + 2 + 2 + 2 + 4 + 5);
     if rng.chance(1, 2) {
         model.material = filling(spare);
     } else {

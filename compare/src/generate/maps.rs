@@ -2,9 +2,9 @@
 
 use super::packets::{
     damage, known_type, lend, lend_torn, packet, refused, state_length, tear, torn, true_length,
-    KNOWN_TYPES, MPEG_TYPES, RESERVED_TYPES,
+    DV_TYPES, KNOWN_TYPES, MPEG_TYPES, RESERVED_TYPES,
 };
-use super::Made;
+use super::{texts, Made};
 use crate::request::{hex, Request, MAP, NAME, NAME_OF_TWO};
 use crate::rng::Rng;
 
@@ -15,6 +15,8 @@ pub struct Item {
     pub length: u8,
     pub value: Vec<u8>,
     pub lone: bool,
+    /// Of a 4F: the aspect that its text was made to say, none where it is no text of Table 7.
+    pub said: Option<u8>,
 }
 
 impl Item {
@@ -24,7 +26,14 @@ impl Item {
             length: value.len() as u8,
             value: value.to_vec(),
             lone: false,
+            said: None,
         }
+    }
+
+    /// A 4F that was made to say this aspect.
+    fn text(value: &[u8], said: Option<u8>) -> Self {
+        let plain = Item::new(0x4F, value);
+        Item { said, ..plain }
     }
 
     fn put(&self, bytes: &mut Vec<u8>) {
@@ -69,6 +78,26 @@ impl Track {
         let wrong = |item: &Item| matches!(item.tag, 0x4D | 0x4F) && !forms.contains(&item.tag);
         self.items.iter().position(wrong)
     }
+
+    /// The aspect of a listed track whose items are good, none for unknown: what its 4F was made to say, or bits of its 4D (02, §11).
+    pub fn aspect(&self) -> Option<u8> {
+        if self.null_name() {
+            return None;
+        }
+        let of = |tag: u8| self.items.iter().find(|item| item.tag == tag);
+        match self.kind() {
+            13 | 14 => marked(&of(0x4D)?.value, 0x10),
+            15 | 16 => marked(&of(0x4D)?.value, 0x01),
+            kind if MPEG_TYPES.contains(&kind) => of(0x4F)?.said,
+            _ => None,
+        }
+    }
+}
+
+/// Whether this bit of byte 0 is set, if byte 3 says that the 4D is valid.
+fn marked(binary: &[u8], mask: u8) -> Option<u8> {
+    let valid = (0x40..=0x7F).contains(&binary[3]);
+    valid.then_some(u8::from(binary[0] & mask != 0))
 }
 
 /// The auxiliary forms of which one may stand in a track of this type; either, where the track is not listed or its name is null.
@@ -225,7 +254,7 @@ impl Model {
             let null = of(0x4C).is_some_and(|(_, value)| value == [0]);
             let shown = |tag: u8| if null { None } else { of(tag) };
             line += &format!(
-                " record {} {} {} {} {} {} {} {} {}",
+                " record {} {} {} {} {} {} {} {} {} {}",
                 track.id(),
                 track.kind(),
                 code(of(0x50), "1 2 3 4 5 6 7 8 -1 -2"),
@@ -234,7 +263,8 @@ impl Model {
                 number(shown(0x4E)),
                 span(of(0x4C)),
                 span(shown(0x4D)),
-                span(shown(0x4F))
+                span(shown(0x4F)),
+                track.aspect().map_or("-".to_string(), |n| n.to_string())
             );
         }
         line + &" kept".repeat(n - count)
@@ -353,10 +383,27 @@ fn spread_unknown(rng: &mut Rng, items: &mut Vec<Item>, tags: &[u8]) {
     }
 }
 
-/// Auxiliary information: 4D or 4F.
-fn form(rng: &mut Rng, tag: u8) -> Item {
+/// The eight bytes of a 4D, as DV tracks have them (Tables 8 and 9): any validity, mostly 1; either aspect bit set or not; the
+/// others none, all or any.
+pub fn binary(rng: &mut Rng) -> Vec<u8> {
+    let mut bytes = match rng.below(4) {
+        0 => vec![0; 8],
+        1 => vec![0xFF; 8],
+        _ => rng.bytes(8),
+    };
+    let validity = rng.pick(&[1, 1, 1, 1, 0, 2, 3]);
+    bytes[3] = bytes[3] & 0x3F | validity << 6;
+    bytes[0] = bytes[0] & 0xEE | rng.pick(&[0x00, 0x01, 0x10, 0x11]);
+    bytes
+}
+
+/// Auxiliary information: 4D or 4F; a text is mostly one of Table 7, or near it.
+pub fn form(rng: &mut Rng, tag: u8) -> Item {
     if tag == 0x4D {
-        Item::new(0x4D, &rng.bytes(8))
+        Item::new(0x4D, &binary(rng))
+    } else if rng.chance(7, 8) {
+        let (text, said) = texts::for_item(rng);
+        Item::text(&text, said)
     } else {
         Item::new(0x4F, &text(rng))
     }
@@ -1067,6 +1114,93 @@ pub fn map_form(rng: &mut Rng) -> Made {
     (ask(rng, &model.bytes(), n), Some(model.line_or_29(n)))
 }
 
+/// DV and MPEG video, the types beside them that have no aspect, any known type, and some that are not listed.
+fn aspect_type(rng: &mut Rng) -> u8 {
+    match rng.below(12) {
+        0..=4 => rng.pick(&DV_TYPES),
+        5..=8 => rng.pick(&MPEG_TYPES),
+        9 => rng.pick(&[25, 26]),
+        10 => rng.pick(&KNOWN_TYPES),
+        _ => rng.pick(&RESERVED_TYPES),
+    }
+}
+
+/// Gives a track such a type and mostly auxiliary information, with a text for a name, a null name or none, before it or behind.
+fn set_aspect(rng: &mut Rng, track: &mut Track) {
+    let kind = aspect_type(rng);
+    track.type_byte = 0x80 + kind;
+    track
+        .items
+        .retain(|item| !matches!(item.tag, 0x4C | 0x4D | 0x4F));
+    let name = match rng.below(7) {
+        0 => None,
+        1 => Some(vec![0]),
+        _ => Some(text(rng)),
+    };
+    let null = name.as_ref().is_some_and(|name| *name == [0]);
+    let mut more: Vec<Item> = name.iter().map(|name| Item::new(0x4C, name)).collect();
+    if rng.chance(9, 10) {
+        let tag = rng.pick(forms(kind, null));
+        more.push(form(rng, tag));
+    }
+    rng.shuffle(&mut more);
+    set_in(rng, &mut track.items, more);
+}
+
+/// A map that is accepted, with a track at least, whose records mostly have to do with an aspect.
+pub fn aspects(rng: &mut Rng) -> Model {
+    let mut model = valid(rng, true);
+    some_track(rng, &mut model);
+    for track in &mut model.tracks {
+        set_aspect(rng, track);
+    }
+    model
+}
+
+pub fn map_aspect(rng: &mut Rng) -> Made {
+    let model = aspects(rng);
+    let n = match rng.below(6) {
+        0 => rng.below(81),
+        _ => (model.count() + rng.below(3)).min(80),
+    };
+    (ask(rng, &model.bytes(), n), Some(model.line(n)))
+}
+
+/// Changes a byte of a 4F, takes one out or sets one in, so that it is a text still; or changes a bit of a 4D.
+fn stir_form(rng: &mut Rng, item: &mut Item) {
+    let last = item.value.len() - 1;
+    if item.tag == 0x4D {
+        item.value[rng.below(8)] ^= 1 << rng.below(8);
+        return;
+    }
+    let byte = rng.pick(b"\n\n  0011279.-arARxV\x01\x7F");
+    match rng.below(3) {
+        _ if last == 0 => {}
+        0 => item.value[rng.below(last)] = byte,
+        1 => {
+            item.value.remove(rng.below(last));
+        }
+        _ if last < texts::MOST => item.value.insert(rng.below(last + 1), byte),
+        _ => {}
+    }
+    item.length = item.value.len() as u8;
+    item.said = None; // it may say the same still
+}
+
+/// The same with small changes in its 4Ds and 4Fs, of which nothing is known but that they are no fault.
+pub fn map_aspect_stirred(rng: &mut Rng) -> Made {
+    let mut model = aspects(rng);
+    for track in &mut model.tracks {
+        let of_form = |item: &&mut Item| matches!(item.tag, 0x4D | 0x4F);
+        if let Some(item) = track.items.iter_mut().find(of_form) {
+            stir_form(rng, item);
+        }
+    }
+    let n = (model.count() + rng.below(3)).min(80);
+    let claim = format!("map {}", model.count());
+    (ask(rng, &model.bytes(), n), Some(claim))
+}
+
 /// Some changes of the model, one on the other, and at times of the bytes.
 pub fn map_many(rng: &mut Rng) -> Made {
     let mut model = valid(rng, true);
@@ -1127,12 +1261,20 @@ pub fn m_with(type_byte: u8, item: &[u8]) -> Vec<u8> {
     bytes
 }
 
+/// A text of Table 7 as an item: 16x9.
+const WIDE: &[u8] = b"\x4F\x4EVer 1\nBr 0.5\nIpg 1\nPpi 4\nBpiop 2\nPix 0\nCf 1\nCg 0\nSl 7\nnl16 36\nVi 1\nf1 1\nar 1\n\0";
+
 /// Any one byte of M, or of M with auxiliary information in either form, set to any value; at times two.
 pub fn map_bench(rng: &mut Rng) -> Made {
     let type_byte = rng.pick(&[0x8A, 0x8B, 0x93]);
-    let mut bytes = match rng.below(6) {
+    let mut bytes = match rng.below(9) {
         0 => m_with(type_byte, &[0x4F, 2, 0x41, 0]),
         1 => m_with(type_byte, &[0x4D, 8, 0, 0, 0, 0, 0, 0, 0, 0]),
+        2 => m_with(0x80 + rng.pick(&MPEG_TYPES), WIDE),
+        3 => m_with(
+            0x80 + rng.pick(&DV_TYPES),
+            &[0x4D, 8, 0x11, 0, 0, 0x40, 0, 0, 0, 0],
+        ),
         _ => M.to_vec(),
     };
     for _ in 0..1 + rng.below(2) {

@@ -22,7 +22,7 @@ pub type Made = (Request, Option<String>);
 pub type Maker = fn(&mut Rng) -> Made;
 
 /// Kinds of cases, taken in turn. The first word is the function.
-pub const KINDS: [(&str, Maker); 76] = [
+pub const KINDS: [(&str, Maker); 78] = [
     ("header plain", packets::header_plain),
     ("header faults", packets::header_faults),
     ("header noise", packets::header_noise),
@@ -41,6 +41,8 @@ pub const KINDS: [(&str, Maker); 76] = [
     ("map torn", maps::map_torn),
     ("map records", maps::map_records),
     ("map wrong form", maps::map_form),
+    ("map aspect", maps::map_aspect),
+    ("map aspect stirred", maps::map_aspect_stirred),
     ("name asked", maps::name_asked),
     ("name damaged", maps::name_damaged),
     ("name torn", maps::name_torn),

@@ -10,6 +10,8 @@ pub const KNOWN_TYPES: [u8; 21] = [
 /// Of these the types of MPEG video, whose auxiliary form is 4F, and all others, whose form is 4D (clause 7.1.3).
 pub const MPEG_TYPES: [u8; 5] = [11, 12, 20, 22, 23];
 pub const OTHER_TYPES: [u8; 16] = [3, 4, 7, 8, 9, 10, 13, 14, 15, 16, 17, 18, 21, 24, 25, 26];
+/// The types of DV whose 4D has an aspect (Tables 8 and 9).
+pub const DV_TYPES: [u8; 4] = [13, 14, 15, 16];
 pub const RESERVED_TYPES: [u8; 14] = [0, 1, 2, 5, 6, 19, 27, 28, 63, 64, 100, 126, 127, 50];
 
 /// A known type, one time in three of MPEG video.

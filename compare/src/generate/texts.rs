@@ -88,6 +88,8 @@ fn unknown(rng: &mut Rng) -> Line {
         "AR",
         "Ar",
         "a",
+        "ar1",
+        "arr",
         "x",
         "0",
         "123",
@@ -409,6 +411,117 @@ pub fn text_fault(rng: &mut Rng) -> Made {
         _ => bad.push(rng.pick(&[0x00, 0x0A, 0x41, 0xFF])),
     }
     (ask(&bad), refused(11, 0))
+}
+
+/// The row of `ar`.
+const AR: usize = 13;
+
+/// The most bytes of a text in an item, its 00 not counted.
+pub const MOST: usize = 254;
+
+/// Lines that are accepted, without `ar`, short enough for an item with some lines more.
+fn item_lines(rng: &mut Rng) -> Vec<Vec<u8>> {
+    let mut lines = lines(rng);
+    lines.retain(|line| line.row != Some(AR));
+    while text(&lines).len() > 190 {
+        let i = lines.iter().position(|line| line.row.is_none());
+        lines.remove(i.expect("known lines alone are shorter"));
+    }
+    lines.iter().map(line_bytes).collect()
+}
+
+/// Sets a line in anywhere.
+fn set_in(rng: &mut Rng, lines: &mut Vec<Vec<u8>>, line: Vec<u8>) {
+    let at = rng.below(lines.len() + 1);
+    lines.insert(at, line);
+}
+
+/// Sets in `ar` or leaves it out; gives the aspect that is then said, or none where the text is refused for it.
+fn set_ar(rng: &mut Rng, lines: &mut Vec<Vec<u8>>) -> Option<u8> {
+    let one = ["1", "01", "000000001"];
+    let zero = ["0", "00", "000000000"];
+    let outside = ["2", "7", "10", "256", "257", "65537", "999999999"];
+    let no_number = [
+        "",
+        " 1",
+        "1 ",
+        "-1",
+        "+1",
+        "1.0",
+        "x",
+        "0x1",
+        "0000000001",
+        "4294967297",
+    ];
+    let any = [rng.pick(&one), rng.pick(&zero), rng.pick(&outside)];
+    let (values, said) = match rng.below(10) {
+        0..=3 => (vec![any[0]], Some(1)),
+        4 | 5 => (vec![any[1]], Some(0)),
+        6 => (vec![], Some(0)),
+        7 => (vec![any[2]], Some(0)), // outside its list is as if it were not there
+        8 => (vec![rng.pick(&any), rng.pick(&any)], None),
+        _ => (vec![rng.pick(&no_number)], None),
+    };
+    for value in values {
+        set_in(rng, lines, line_bytes(&known(AR, value)));
+    }
+    said
+}
+
+/// Makes lines a text that is refused: a malformed line, the last one without its 0A, a required parameter not given or twice.
+fn spoil(rng: &mut Rng, lines: &mut Vec<Vec<u8>>) {
+    let row = rng.below(12);
+    let of_row = |line: &Vec<u8>| line.starts_with(format!("{} ", ROWS[row].0).as_bytes());
+    let i = lines.iter().position(of_row).expect("it is required");
+    match rng.below(5) {
+        0 => {
+            let line = malformed(rng);
+            set_in(rng, lines, line);
+        }
+        1 => {
+            let last = lines.last_mut().expect("there are twelve");
+            last.pop();
+        }
+        2 if !ROWS[row].2.is_empty() => {
+            lines[i] = line_bytes(&known(row, rng.pick(ROWS[row].2)));
+        }
+        3 => {
+            let again = lines[i].clone();
+            set_in(rng, lines, again);
+        }
+        _ => {
+            lines.remove(i);
+        }
+    }
+}
+
+/// A text that an item takes, as MPEG tracks have it, and the aspect that it says: none where its reader refuses. If full, or one
+/// time in six, an unknown line at its front makes it as long as it can be.
+fn saying(rng: &mut Rng, full: bool) -> (Vec<u8>, Option<u8>) {
+    let mut lines = item_lines(rng);
+    let mut said = set_ar(rng, &mut lines);
+    if rng.chance(1, 6) {
+        spoil(rng, &mut lines);
+        said = None;
+    }
+    let mut bytes = lines.concat();
+    if full || rng.chance(1, 6) {
+        let value = vec![b'z'; MOST - bytes.len() - 3];
+        bytes = [b"y ", &value[..], b"\n", &bytes].concat();
+    }
+    assert!(bytes.len() <= MOST, "an item takes the text");
+    bytes.push(0);
+    (bytes, said)
+}
+
+/// Such a text for an item.
+pub fn for_item(rng: &mut Rng) -> (Vec<u8>, Option<u8>) {
+    saying(rng, false)
+}
+
+/// Such a text of just the length that an item can have at most.
+pub fn longest(rng: &mut Rng) -> (Vec<u8>, Option<u8>) {
+    saying(rng, true)
 }
 
 /// Blind damage, with the text rule kept in most cases.

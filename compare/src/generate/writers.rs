@@ -1,7 +1,7 @@
 //! Inputs of the writers, with numbers at every edge, short rooms and places beyond.
 
 use super::packets::{flt_payload, known_type, packet, KNOWN_TYPES, MPEG_TYPES, OTHER_TYPES};
-use super::Made;
+use super::{maps, texts, Made};
 use crate::request::{hex, lent_room, word_bytes, Request, WRITE_FLT, WRITE_MAP};
 use crate::rng::{Rng, EDGES};
 use crate::size::MOST;
@@ -137,10 +137,17 @@ fn own_text(rng: &mut Rng, text: &mut Vec<u8>, n: usize) -> Slot {
     [1, place as u64, n as u64]
 }
 
+/// A text of Table 7, or near it, behind all that stands in the lent text; it is given without its 00.
+fn aux_slot(text: &mut Vec<u8>, aux: &[u8]) -> Slot {
+    let (place, n) = (text.len() as u64, aux.len() - 1);
+    text.extend(&aux[..n]);
+    [1, place, n as u64]
+}
+
 /// A 4D of its own: 00 and bytes over 7F are fine in it.
 fn binary_slot(rng: &mut Rng, text: &mut Vec<u8>) -> Slot {
     let place = text.len() as u64;
-    text.extend(rng.bytes(8));
+    text.extend(maps::binary(rng));
     [1, place, 8]
 }
 
@@ -198,8 +205,11 @@ fn of_mpeg(kind: u64) -> bool {
 /// Gives a track auxiliary information, as a text or as eight bytes.
 fn set_form(rng: &mut Rng, text: &mut Vec<u8>, slots: &mut [Slot; 7], as_text: bool) {
     if as_text {
-        let empty = rng.chance(1, 4);
-        slots[3] = text_slot(rng, text, empty);
+        slots[3] = match rng.below(8) {
+            0 => text_slot(rng, text, true),
+            1 => text_slot(rng, text, false),
+            _ => aux_slot(text, &texts::for_item(rng).0),
+        };
         slots[1] = absent(rng);
     } else {
         slots[1] = binary_slot(rng, text);
@@ -636,12 +646,16 @@ impl Lent {
     }
 }
 
-/// All items that may stand in a track, as long as they can be: 542 bytes with the header (F22).
+/// All items that may stand in a track, as long as they can be, the 4F at times one of Table 7: 542 bytes with the header (F22).
 fn full_row(rng: &mut Rng, lent: &mut Lent, id: u64) -> Row {
     let (_, id, mut slots) = bare_row(rng, id);
     slots[0] = lent.longest(rng);
     slots[2] = number_slot(rng);
-    slots[3] = lent.longest(rng);
+    slots[3] = if rng.chance(1, 2) {
+        aux_slot(&mut lent.text, &texts::longest(rng).0)
+    } else {
+        lent.longest(rng)
+    };
     for (i, listed) in CODES {
         slots[i] = code_slot(rng, listed);
     }

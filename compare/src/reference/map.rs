@@ -1,5 +1,6 @@
 //! 01, Map (clause 7.1): one walk along the bytes, the first fault met is the refusal (D8).
 
+use super::aspect::{aspect, Aspect};
 use super::header::{packet_bytes, MAP};
 use super::plate::{known_type, most_first, refuse, text_ok, wrong_form, Answer};
 
@@ -22,6 +23,8 @@ pub struct Track {
     pub name: Option<Part>,
     pub binary: Option<Part>,
     pub text: Option<Part>,
+    /// `None` is unknown (02, §11).
+    pub aspect: Option<Aspect>,
 }
 
 #[derive(Clone, PartialEq, Eq, Debug)]
@@ -107,8 +110,13 @@ fn find(known: &[Item], tag: u8) -> Option<Part> {
         .map(|item| item.part)
 }
 
+/// The bytes that lie there.
+fn bytes(packet: &[u8], part: Part) -> &[u8] {
+    &packet[part.place as usize..(part.place + part.length) as usize]
+}
+
 fn number(packet: &[u8], part: Part) -> u32 {
-    most_first(&packet[part.place as usize..(part.place + part.length) as usize]) as u32
+    most_first(bytes(packet, part)) as u32
 }
 
 /// Codes: those listed, −1 and −2; any other value counts as absent.
@@ -134,10 +142,12 @@ fn form_ok(kind: u8, known: &[Item]) -> Answer<()> {
     }
 }
 
-/// The record of a listed track. A null name hides 4D, 4E and 4F, wherever they stand (D14).
+/// The record of a listed track. A null name hides 4D, 4E and 4F, wherever they stand (D14), and so leaves the aspect unknown.
 fn record(packet: &[u8], kind: u8, id: u8, known: &[Item]) -> Track {
     let null = null_name(known);
     let shown = |part: Option<Part>| if null { None } else { part };
+    let (binary, text) = (shown(find(known, 0x4D)), shown(find(known, 0x4F)));
+    let at = |part: Option<Part>| part.map(|part| bytes(packet, part));
     Track {
         id,
         kind,
@@ -146,8 +156,9 @@ fn record(packet: &[u8], kind: u8, id: u8, known: &[Item]) -> Track {
         fields: code(packet, find(known, 0x52), &FIELDS),
         version: shown(find(known, 0x4E)).map(|part| number(packet, part)),
         name: find(known, 0x4C),
-        binary: shown(find(known, 0x4D)),
-        text: shown(find(known, 0x4F)),
+        binary,
+        text,
+        aspect: aspect(kind, at(binary), at(text)),
     }
 }
 

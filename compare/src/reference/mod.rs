@@ -1,5 +1,6 @@
 //! 01's rules, one module a section. Nothing here is tuned: each function does what its sentence says, in that order.
 
+pub mod aspect;
 pub mod book;
 pub mod header;
 pub mod listing;

@@ -53,11 +53,17 @@ pub fn known_type(kind: u64) -> bool {
     matches!(kind, 3 | 4 | 7..=18 | 20..=26)
 }
 
+/// The media types of MPEG video (Table 5).
+pub fn mpeg_video(kind: u8) -> bool {
+    matches!(kind, 11 | 12 | 20 | 22 | 23)
+}
+
 /// Clause 7.1.3: the auxiliary form that a media type may not have, 4D on MPEG video and 4F on every other (02, §12).
 pub fn wrong_form(kind: u8) -> u8 {
-    match kind {
-        11 | 12 | 20 | 22 | 23 => 0x4D,
-        _ => 0x4F,
+    if mpeg_video(kind) {
+        0x4D
+    } else {
+        0x4F
     }
 }
 

@@ -1,3 +1,4 @@
+pub mod Aspect
 pub mod Encoded
 pub mod Faults
 pub mod Laws
@@ -5,7 +6,7 @@ pub mod Most
 pub mod Numbers
 pub mod Once
 pub mod Parts
-pub mod ViewOfParts
 pub mod Samples
+pub mod ViewOfParts
 pub mod Within
 pub mod WrongForm

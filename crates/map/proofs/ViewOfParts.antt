@@ -11,20 +11,20 @@ use Rattle.plate.specs.Choice.{pick}
 use Rattle.plate.specs.Ended.{none, inFront}
 use Rattle.map_items.specs.Items.{Item, sectionOf, itemsSize, itemsBytes}
 use Rattle.map_items.specs.Items as items
-use Rattle.map_items.specs.Find.{Found, missing, found, find, partOf}
+use Rattle.map_items.specs.Find.{Found, missing, found, find, partOf, bytesOf}
 use Rattle.map_items.specs.declared.Part.the-variants as part
 use Rattle.map_items.proofs.Lookup.{find-stands}
 use Rattle.map_items.proofs.Split.{section-front}
-use Rattle.map_answer.specs.Answer.{valueOf, isNull, materialOf, trackOf}
+use Rattle.map_answer.specs.Answer.{valueOf, isNull, shownBytes, materialOf, trackOf}
 use Rattle.map_answer.specs.declared.Value.{Value}
 use Rattle.map_answer.specs.declared.Value.the-variants as value
 use Rattle.map_tracks.specs.Tracks.{Description, Placed, hangs, splitTracks, tracksOf, isListed, listed, recordOf}
 use Rattle.map.specs.Map.{layoutOf, materialIn, tracksIn, tracksAt, materialSays, listedIn}
 use Rattle.plate.specs.Part.{part}
 use Rattle.map.specs.Encode.{TrackParts, MapParts, described, encode}
-use Rattle.map.specs.View.{Held, nothing, bytes, heldAt, materialViewIn, trackViewIn, viewIn}
+use Rattle.map.specs.View.{Held, nothing, bytes, heldAt, heldBytes, materialViewIn, trackViewIn, viewIn}
 use Rattle.map.specs.Parts.{listedOf, opened, partsOf}
-use Rattle.map.specs.Inside.{heldOf, materialViewOfItems, trackViewOfParts, viewOfParts}
+use Rattle.map.specs.Inside.{heldOf, shownOf, materialViewOfItems, trackViewOfParts, viewOfParts}
 use Rattle.map.specs.declared.Layout.{Layout}
 use Rattle.map.specs.declared.Layout.the-variants.{Both, One, Neither}
 use Rattle.map.proofs.Laws.{Within, layout-within}
@@ -93,6 +93,18 @@ module _ (p : List ℕ) (q : ℕ) (is : List Item) (pre post : List ℕ) (l : le
       go true e = refl
       go false e = e
 
+  shown-there : (tag : ℕ) → shownBytes tag q is ≡ heldBytes (shownOf tag is)
+  unfolding heldOf
+  shown-there tag = rw null-there (go (isNull (partOf (find 0x4C 0 is))) (find tag q is) (find tag 0 is) (held-anywhere tag q 0 is))
+    where
+      same : (x y : Found) → heldOf x ≡ heldOf y → bytesOf x ≡ heldBytes (heldOf y)
+      same missing y e = ap heldBytes e
+      same (found r v) y e = ap heldBytes e
+
+      go : (b : Bool) (x y : Found) → heldOf x ≡ heldOf y → pick b [] (bytesOf x) ≡ heldBytes (pick b nothing (heldOf y))
+      go true x y e = refl
+      go false x y e = same x y e
+
   pub material-there : materialViewIn p (materialOf q is) ≡ materialViewOfItems is
   unfolding materialViewIn materialOf materialViewOfItems
   material-there = rw (held-there 0x40, value-there 0x41, value-there 0x42, value-there 0x43, value-there 0x44, value-there 0x45)
@@ -100,7 +112,7 @@ module _ (p : List ℕ) (q : ℕ) (is : List Item) (pre post : List ℕ) (l : le
   pub track-there : (typeByte id : ℕ) → trackViewIn p (trackOf typeByte id q is) ≡ trackViewOfParts (record { typeByte = typeByte; id = id; items = is })
   unfolding trackViewIn trackOf trackViewOfParts
   track-there typeByte id =
-      rw (held-there 0x4C, hidden-there 0x4D, hidden-there 0x4F, null-there, value-there 0x4E, value-there 0x50, value-there 0x51, value-there 0x52)
+      rw (held-there 0x4C, hidden-there 0x4D, hidden-there 0x4F, shown-there 0x4D, shown-there 0x4F, null-there, value-there 0x4E, value-there 0x50, value-there 0x51, value-there 0x52)
 
 -- a track's bytes stand in the packet from place q on
 pub opened-there : (p : List ℕ) (q : ℕ) (d : Description) (pre post : List ℕ) → length pre ≡ q + 4 → p ≡ pre ++ (d .items ++ post)

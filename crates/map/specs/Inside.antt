@@ -1,5 +1,5 @@
 -- What serves the proofs alone: what items and tracks say, with no place in it, and what the reader asks of them. The theorems about newer and written maps go by it.
-use Prim.Native.Nat.{_-_}
+use Prim.Native.Nat.{ℕ, _-_}
 use mathlib.Core.Path.{_≡_}
 use mathlib.Core.List.{List, [], map}
 use lib.ListN.{length}
@@ -9,11 +9,12 @@ use Rattle.map_items.specs.Judge.{judgeItems}
 use Rattle.map_items.specs.declared.Section.the-variants as section
 use Rattle.map_items.specs.declared.Verdict.the-variants.{Accepted}
 use Rattle.map_items.specs.Find.{Found, missing, found, find, partOf}
+use Rattle.map_aspect.specs.Aspect.{aspectOf}
 use Rattle.map_answer.specs.Answer.{valueOf, codeOf, isNull}
 use Rattle.map_answer.specs.declared.Value.the-variants as value
 use Rattle.map_tracks.specs.Tracks.{over, judgeTracks}
 use Rattle.map.specs.Encode.{TrackParts, MapParts, described}
-use Rattle.map.specs.View.{Held, nothing, bytes, MaterialView, TrackView, MapView}
+use Rattle.map.specs.View.{Held, nothing, bytes, heldBytes, MaterialView, TrackView, MapView}
 use Rattle.map.specs.Parts.{listedOf}
 
 -- what was found: its stored length and its bytes
@@ -34,6 +35,9 @@ materialViewOfItems is =
     }
 
 -- Table 6; a null name hides 4D, 4E and 4F
+abbrev pub shownOf : ℕ → List Item → Held
+shownOf tag is = pick (isNull (partOf (find 0x4C 0 is))) nothing (heldOf (find tag 0 is))
+
 unfoldable pub trackViewOfParts : TrackParts → TrackView
 trackViewOfParts t =
     record {
@@ -44,8 +48,9 @@ trackViewOfParts t =
       fields = codeOf 0x52 (valueOf (find 0x52 0 (t .items)));
       version = pick (isNull (partOf (find 0x4C 0 (t .items)))) value.Absent (valueOf (find 0x4E 0 (t .items)));
       name = heldOf (find 0x4C 0 (t .items));
-      aux = pick (isNull (partOf (find 0x4C 0 (t .items)))) nothing (heldOf (find 0x4D 0 (t .items)));
-      mpeg = pick (isNull (partOf (find 0x4C 0 (t .items)))) nothing (heldOf (find 0x4F 0 (t .items)));
+      aux = shownOf 0x4D (t .items);
+      mpeg = shownOf 0x4F (t .items);
+      aspect = aspectOf (t .typeByte - 0x80) (heldBytes (shownOf 0x4D (t .items))) (heldBytes (shownOf 0x4F (t .items)));
     }
 
 -- the answer: the count of listed tracks, the material, and the records in order

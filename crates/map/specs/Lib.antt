@@ -1,3 +1,4 @@
+pub mod Aspect
 pub mod Encode
 pub mod Inside
 pub mod Map

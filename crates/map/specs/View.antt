@@ -1,9 +1,10 @@
 -- What a map's answer says, places aside (01, "Map"): two answers are alike when all else agrees and the bytes at the places do.
 use Prim.Native.Nat.{ℕ}
-use mathlib.Core.List.{List, map}
+use mathlib.Core.List.{List, [], map}
 use lib.ListN.{length, take, drop}
 use Rattle.map_items.specs.declared.Part.{Part}
 use Rattle.map_items.specs.declared.Part.the-variants as part
+use Rattle.map_aspect.specs.declared.Aspect.{Aspect}
 use Rattle.map_answer.specs.declared.Value.{Value}
 use Rattle.map_answer.specs.declared.Code.{Code}
 use Rattle.map_answer.specs.declared.Material.{Material}
@@ -19,6 +20,11 @@ pub data Held : Type 0 where
 abbrev pub heldAt : List ℕ → Part → Held
 heldAt p (part.At q n) = bytes n (take n (drop q p))
 heldAt p part.Absent = nothing
+
+-- those bytes; none where nothing is there
+abbrev pub heldBytes : Held → List ℕ
+heldBytes nothing = []
+heldBytes (bytes n v) = v
 
 pub record MaterialView : Type 0 where
   pub name : Held
@@ -38,6 +44,7 @@ pub record TrackView : Type 0 where
   pub name : Held
   pub aux : Held
   pub mpeg : Held
+  pub aspect : Aspect
 
 -- the answer on a whole map: the count of listed tracks, the material, and the records in order
 pub record MapView : Type 0 where
@@ -69,6 +76,7 @@ trackViewIn p t =
       name = heldAt p (t .name);
       aux = heldAt p (t .aux);
       mpeg = heldAt p (t .mpeg);
+      aspect = t .aspect;
     }
 
 -- what the map packet p shows, by lengths alone: on a map that the reader accepts, its answer

@@ -1,10 +1,10 @@
 -- What a part that was found tells of the bytes, and which numbers are codes.
 use Prim.Native.Nat.{ℕ, _+_, _-_, _<_, _≤_}
 use mathlib.Core.Path.{_≡_, refl, sym, _∙_}
-use mathlib.Core.List.{List}
+use mathlib.Core.List.{List, []}
 use mathlib.Core.Bool.{Bool, true, false}
 use native.Mathlib.Omega.{arith}
-use native.Mathlib.Nat.{add-zero}
+use native.Mathlib.Nat.{add-zero, add-sub-cancel-left}
 use lib.ListN.{length, take, drop}
 use lib.Dec.{eqb, leb}
 use borrow.Author.Tests.{eq-eqb, ne-eqb, le-leb, lt-leb, leb-true, leb-false}
@@ -14,10 +14,11 @@ use Rattle.number.specs.Number.{be}
 use Rattle.number.proofs.Laws.{be-drop, be-take}
 use Rattle.map_items.specs.Items.{sectionOf}
 use Rattle.map_items.specs.Judge.{has}
-use Rattle.map_items.specs.Find.{Found, missing, found, find, partOf}
+use Rattle.map_items.specs.Find.{Found, missing, found, find, partOf, bytesOf}
 use Rattle.map_items.proofs.Lookup.{section-stands}
 use Rattle.map_items.specs.declared.Part.the-variants as part
 use Rattle.map_answer.specs.Answer.{valueOf, allowed}
+use Rattle.map_answer.specs.Inside.{InSection, partBytes}
 use Rattle.map_answer.specs.declared.Value.the-variants as value
 
 -- what was found behind a part
@@ -80,3 +81,25 @@ allowed-small tag n e = go (leb n 8) refl
     go : (b : Bool) → leb n 8 ≡ b → n ≤ 8
     go true q = leb-true _ _ q
     go false q = absurd (let f : true ≡ false = sym e ∙ over-allowed tag n (leb-false _ _ q) in let z : _≡_ {A = ℕ} 0 1 = cc in omega arith)
+
+-- a part that is shown lies in its section, and its bytes are the item's
+module _ (tag base : ℕ) (s : List ℕ) where
+  abbrev it : Found
+  it = find tag base (sectionOf s .list)
+
+  pub shown-in : (null : Bool) → InSection s base (pick null part.Absent (partOf it))
+  shown-in true = tt
+  shown-in false = go it refl
+    where
+      go : (x : Found) → it ≡ x → InSection s base (partOf x)
+      go missing e = tt
+      go (found q v) e = let r = section-stands tag base s q v e in (omega (arith, r .0), r .1)
+
+  pub shown-bytes : (null : Bool) → partBytes s base (pick null part.Absent (partOf it)) ≡ pick null [] (bytesOf it)
+  unfolding partBytes
+  shown-bytes true = refl
+  shown-bytes false = go it refl
+    where
+      go : (x : Found) → it ≡ x → partBytes s base (partOf x) ≡ bytesOf x
+      go missing e = refl
+      go (found q v) e = rw add-sub-cancel-left (section-stands tag base s q v e .2)

@@ -10,10 +10,11 @@ use lib.IntN.{ℤ, pos, negsuc}
 use Rattle.plate.specs.Choice.{pick, within}
 use Rattle.number.specs.Number.{be}
 use Rattle.map_items.specs.Items.{Item}
-use Rattle.map_items.specs.Find.{Found, missing, found, find, partOf}
+use Rattle.map_items.specs.Find.{Found, missing, found, find, partOf, bytesOf}
 use Rattle.map_items.specs.Judge.{has}
 use Rattle.map_items.specs.declared.Part.{Part}
 use Rattle.map_items.specs.declared.Part.the-variants as part
+use Rattle.map_aspect.specs.Aspect.{aspectOf}
 use Rattle.map_answer.specs.declared.Value.{Value}
 use Rattle.map_answer.specs.declared.Value.the-variants as value
 use Rattle.map_answer.specs.declared.Code.{Code}
@@ -90,7 +91,11 @@ materialOf p is =
       size = valueOf (find 0x45 p is);
     }
 
--- Table 6: 4C name, 4D and 4F auxiliary information, 4E version, 50 rate, 51 lines, 52 fields; a null name hides 4D, 4E and 4F
+-- the bytes of an item that a null name hides; none where it is hidden or not there
+abbrev pub shownBytes : ℕ → ℕ → List Item → List ℕ
+shownBytes tag p is = pick (isNull (partOf (find 0x4C p is))) [] (bytesOf (find tag p is))
+
+-- Table 6: 4C name, 4D and 4F auxiliary information, 4E version, 50 rate, 51 lines, 52 fields; a null name hides 4D, 4E and 4F. The aspect (02, §11) is by the type and by what is shown of 4D and 4F
 unfoldable pub trackOf : ℕ → ℕ → ℕ → List Item → Track
 trackOf typeByte id p is =
     record {
@@ -103,4 +108,5 @@ trackOf typeByte id p is =
       name = partOf (find 0x4C p is);
       aux = pick (isNull (partOf (find 0x4C p is))) part.Absent (partOf (find 0x4D p is));
       mpeg = pick (isNull (partOf (find 0x4C p is))) part.Absent (partOf (find 0x4F p is));
+      aspect = aspectOf (typeByte - 0x80) (shownBytes 0x4D p is) (shownBytes 0x4F p is);
     }

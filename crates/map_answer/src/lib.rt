@@ -1,12 +1,15 @@
 // What the items of a section say: the material answer and the track record, by value.
 // It serves the map reader, which hands it parts of a packet; what asks for bounds here is met there for every input.
+use map_aspect::Aspect;
 use map_items::Part;
 ghost use mathlib.Core.Path.{_≡_};
 ghost use Prim.Native.Nat.{_+_, _-_, _<_, _^_};
 ghost use lib.ListN.{length};
 ghost use Rattle.map_items.specs.Items.{sectionOf};
-ghost use Rattle.map_items.specs.Find.{find};
+ghost use Rattle.plate.specs.Choice.{pick};
+ghost use Rattle.map_items.specs.Find.{find, partOf};
 ghost use Rattle.map_answer.specs.Answer.{valueOf, allowed, codeOf, isNull, materialOf, trackOf};
+ghost use Rattle.map_answer.specs.Inside.{InSection, partBytes};
 
 // A number of a map, if it is there.
 pub enum Value {
@@ -32,7 +35,7 @@ pub struct Material {
     pub size: Value,
 }
 
-// A track: ID and type bare, codes, version, and where name, 4D and 4F stand.
+// A track: ID and type bare, codes, version, where name, 4D and 4F stand, and the aspect that follows.
 pub struct Track {
     pub id: u8,
     pub media_type: u8,
@@ -43,6 +46,7 @@ pub struct Track {
     pub name: Part,
     pub aux: Part,
     pub mpeg: Part,
+    pub aspect: Aspect,
 }
 
 // A byte less a mark, or 0 where it is under the mark.
@@ -171,6 +175,43 @@ pub fn material_says(s: &[u8], base: usize) -> Material
     }
 }
 
+// Where an item stands that a null name hides.
+fn shown(s: &[u8], base: usize, tag: u8, null: bool) -> Part
+    requires { ⌜ base + length (now s) < 2 ^ 64 ⌝ }
+    ensures { λ r. ⌜ r ≡ pick null Part.Absent (partOf (find tag base (sectionOf (now (s .entry)) .list))) ⌝ }
+{
+    if null {
+        return Part::Absent;
+    }
+    map_items::found(s, base, tag)
+}
+
+// The version, which a null name hides.
+fn version(s: &[u8], base: usize, null: bool) -> Value
+    requires { ⌜ base + length (now s) < 2 ^ 64 ⌝ }
+    ensures { λ r. ⌜ r ≡ pick null Value.Absent (valueOf (find 0x4E base (sectionOf (now (s .entry)) .list))) ⌝ }
+{
+    if null {
+        return Value::Absent;
+    }
+    value_at(s, base, 0x4E)
+}
+
+// The bytes of a part of a section that begins at place base of its packet.
+fn part_bytes(s: &[u8], base: usize, x: Part) -> &[u8]
+    requires { ⌜ InSection (now s) base x ⌝ }
+    ensures { λ r. ⌜ now r ≡ partBytes (now (s .entry)) base x ⌝ }
+{
+    match x {
+        Part::At(q, n) => {
+            let from = q - base;
+            let to = from + n;
+            &s[from..to]
+        }
+        Part::Absent => &s[..0],
+    }
+}
+
 // The record of a track whose type and ID bytes are these, and whose items begin at place base of the packet.
 pub fn record(type_byte: u8, id: u8, s: &[u8], base: usize) -> Track
     requires { ⌜ base + length (now s) < 2 ^ 64 ⌝ }
@@ -182,22 +223,13 @@ pub fn record(type_byte: u8, id: u8, s: &[u8], base: usize) -> Track
     let lines = code_at(s, base, 0x51);
     let fields = code_at(s, base, 0x52);
     let name = map_items::found(s, base, 0x4C);
-    if is_null(name) {
-        return Track {
-            id,
-            media_type,
-            rate,
-            lines,
-            fields,
-            version: Value::Absent,
-            name,
-            aux: Part::Absent,
-            mpeg: Part::Absent,
-        };
-    }
-    let version = value_at(s, base, 0x4E);
-    let aux = map_items::found(s, base, 0x4D);
-    let mpeg = map_items::found(s, base, 0x4F);
+    let null = is_null(name);
+    let version = version(s, base, null);
+    let aux = shown(s, base, 0x4D, null);
+    let mpeg = shown(s, base, 0x4F, null);
+    let bits = part_bytes(s, base, aux);
+    let text = part_bytes(s, base, mpeg);
+    let aspect = map_aspect::of_track(media_type, bits, text);
     Track {
         id,
         media_type,
@@ -208,5 +240,6 @@ pub fn record(type_byte: u8, id: u8, s: &[u8], base: usize) -> Track
         name,
         aux,
         mpeg,
+        aspect,
     }
 }

@@ -21,3 +21,8 @@ find tag p (i ∷ is) = pick (eqb (i .tag) tag) (found (p + 2) (i .value)) (find
 abbrev pub partOf : Found → Part
 partOf missing = Absent
 partOf (found p v) = At p (length v)
+
+-- the bytes; none where it is missing
+abbrev pub bytesOf : Found → List ℕ
+bytesOf missing = []
+bytesOf (found p v) = v

@@ -17,6 +17,8 @@ use Rattle.map_items.specs.Items as items
 use Rattle.map_items.specs.Items.{Item}
 use Rattle.map_items.specs.Judge as judge
 use Rattle.map_items.specs.Find as find
+use Rattle.map_aspect.specs.Aspect.{aspectOf}
+use Rattle.map_aspect.specs.declared.Aspect.the-variants as aspect
 use Rattle.map_answer.specs.Answer as answer
 use Rattle.map_answer.specs.declared.Value.the-variants as value
 use Rattle.map_answer.specs.declared.Code.{Code}
@@ -205,12 +207,13 @@ M-view =
             name = bytes 3 (0x41 ∷ 0x31 ∷ 0x00 ∷ []);
             aux = nothing;
             mpeg = nothing;
+            aspect = aspect.Unknown;
           }
           ∷ [];
     }
 
 pub M-viewed : viewIn M ≡ M-view
-unfolding be knownType items.splitItems items.sectionOf find.find answer.valueOf answer.allowed answer.codeOf answer.isNull answer.materialOf answer.trackOf judge.has tracks.splitTracks tracks.tracksOf tracks.isListed tracks.listed tracks.recordOf map.afterMaterial map.layoutOf map.materialSays map.listedIn shown.materialViewIn shown.trackViewIn shown.viewIn
+unfolding be knownType mpegType aspectOf items.splitItems items.sectionOf find.find answer.valueOf answer.allowed answer.codeOf answer.isNull answer.materialOf answer.trackOf judge.has tracks.splitTracks tracks.tracksOf tracks.isListed tracks.listed tracks.recordOf map.afterMaterial map.layoutOf map.materialSays map.listedIn shown.materialViewIn shown.trackViewIn shown.viewIn
 M-viewed = refl
 
 -- so the functions give that on M, and on M with `7E 01 55`

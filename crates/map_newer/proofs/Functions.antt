@@ -41,7 +41,7 @@ kth-seen m (suc k) [] = refl
 kth-seen m zero (x ∷ xs) = refl
 kth-seen m (suc k) (x ∷ xs) = kth-seen m k xs
 
-id-gives : (m : List ℕ) (id : ℕ) (y : Kth) → IdGives m id y → y ≡ idOf id (listedIn m)
+pub id-gives : (m : List ℕ) (id : ℕ) (y : Kth) → IdGives m id y → y ≡ idOf id (listedIn m)
 id-gives m id y g = rw (← g .bytes, ← g .track) (g .post)
 
 types-gives : (m : List ℕ) (t : Types) → TypesGives m t → t .«media_types» ≡ typesIn m

@@ -87,6 +87,11 @@ by-value s at m k h = go (packetAt s at 0xBC)
     go (packet.Refused r) e = absurd (let z : _≡_ {A = ℕ} 0 1 = cc in omega arith)
     go (packet.Whole w) e = in-packet (part at (at + w .len) s) (mapVerdict (part at (at + w .len) s)) e
 
+any : (ts : List Track) (k : ℕ) (x y : Track) → k < length ts → getD ts k x ≡ getD ts k y
+any [] k x y h = absurd (omega arith)
+any (t ∷ ts) zero x y h = refl
+any (t ∷ ts) (suc k) x y h = any ts k x y (omega arith)
+
 module _ (ys : List Track) (s : List ℕ) (at : ℕ) (m : MapSays) (zs : List Track) (f : Filled ys s at (map.Says m) zs) where
   first-listed : zs ≡ recordsAt s at ++ drop (length (recordsAt s at)) ys
   unfolding Filled lentAfter
@@ -115,6 +120,15 @@ module _ (ys : List Track) (s : List ℕ) (at : ℕ) (m : MapSays) (zs : List Tr
   -- the k-th record is what the reader by value gives of the k-th listed track
   pub kth-is : (k : ℕ) → k < m .count → trackAt s at k ≡ track.Record (getD zs k blank)
   kth-is k h = rw (record-in k h) (by-value s at m k h (says .0))
+
+  -- whatever stands for a record that is not there
+  pub kth-any : (k : ℕ) → k < m .count → (y : Track) → trackAt s at k ≡ track.Record (getD zs k y)
+  kth-any k h y =
+      kth-is k h
+      ∙ ap track.Record
+      (record-in k h
+      ∙ any (recordsAt s at) k blank y (omega (arith, count-listed .0))
+      ∙ sym (rw first-listed (sym (getD-take (length (recordsAt s at)) _ k y (omega (arith, count-listed .0))) ∙ ap (λ (l : List Track). getD l k y) (take-append-seam (recordsAt s at) _))))
 
 -- 13 falls only there: no map is refused with it
 pub record Short (s : List ℕ) (at room : ℕ) : Type 0 where

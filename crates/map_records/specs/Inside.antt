@@ -2,6 +2,7 @@
 use Prim.Native.Nat.{ℕ}
 use mathlib.Core.List.{map as each}
 use Rattle.map_items.specs.declared.Part.the-variants as item
+use Rattle.map_aspect.specs.declared.Aspect.the-variants as aspect
 use Rattle.map_answer.specs.declared.Track.{Track}
 use Rattle.map_answer.specs.declared.Code.the-variants as code
 use Rattle.map_answer.specs.declared.Value.the-variants as value
@@ -21,6 +22,7 @@ blank =
       name = item.Absent;
       aux = item.Absent;
       mpeg = item.Absent;
+      aspect = aspect.Unknown;
     }
 
 -- how many records an answer stands for; this too is for the code alone

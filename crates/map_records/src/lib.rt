@@ -5,6 +5,7 @@ use map::MapSays;
 use map_answer::Code;
 use map_answer::Track;
 use map_answer::Value;
+use map_aspect::Aspect;
 use map_items::Part;
 use map_tracks::Kth;
 use packet::PacketAnswer;
@@ -54,6 +55,7 @@ fn blank_track() -> Track
         name: Part::Absent,
         aux: Part::Absent,
         mpeg: Part::Absent,
+        aspect: Aspect::Unknown,
     }
 }
 

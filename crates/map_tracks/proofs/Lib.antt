@@ -1,5 +1,6 @@
 pub mod Anywhere
 pub mod Bits
+pub mod ById
 pub mod Faults
 pub mod Form
 pub mod Judged

@@ -4,11 +4,12 @@ use mathlib.Core.List.{List, [], _∷_, _++_}
 use lib.ListN.{length, getD, take, drop}
 use lib.Dec.{eqb}
 use Rattle.plate.specs.Choice.{pick}
+use Rattle.map_aspect.specs.Aspect.{aspectOf}
 use Rattle.map_answer.specs.declared.Value.{Value}
 use Rattle.map_answer.specs.declared.Value.the-variants as value
 use Rattle.map_answer.specs.declared.Code.{Code}
 use Rattle.map_answer.specs.declared.Code.the-variants as code
-use Rattle.map.specs.View.{Held, nothing, bytes, MaterialView, TrackView, MapView}
+use Rattle.map.specs.View.{Held, nothing, bytes, heldBytes, MaterialView, TrackView, MapView}
 use Rattle.map_given.specs.declared.Slot.{Slot}
 use Rattle.map_given.specs.Given.{slotAt}
 
@@ -45,7 +46,7 @@ materialViewGiven text ms =
       size = valueGiven (slotAt ms 15 0x45);
     }
 
--- a track's record that begins at a word: type, ID, and its slots
+-- a track's record that begins at a word: type, ID, and its slots; no word is the aspect, which follows from the type, the 4D and the text that are given (02, §11)
 unfoldable pub trackViewGiven : List ℕ → List ℕ → ℕ → TrackView
 trackViewGiven text ts at =
     record {
@@ -58,6 +59,7 @@ trackViewGiven text ts at =
       name = textGiven text (slotAt ts (at + 2) 0x4C);
       aux = eightGiven text (slotAt ts (at + 5) 0x4D);
       mpeg = textGiven text (slotAt ts (at + 11) 0x4F);
+      aspect = aspectOf (getD ts at 0) (heldBytes (eightGiven text (slotAt ts (at + 5) 0x4D))) (heldBytes (textGiven text (slotAt ts (at + 11) 0x4F)));
     }
 
 -- n records, one after another

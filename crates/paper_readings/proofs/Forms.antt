@@ -7,6 +7,8 @@ use Rattle.packet.specs.Packet.{headerAt, sizedAt, packetAt}
 use Rattle.map_items.specs.Items as items
 use Rattle.map_items.specs.Judge as judge
 use Rattle.map_items.specs.Find as find
+use Rattle.mpeg.specs.Read.{readOf}
+use Rattle.map_aspect.specs.Aspect as aspect
 use Rattle.map_answer.specs.Answer as answer
 use Rattle.map_tracks.specs.Tracks as tracks
 use Rattle.map.specs.Map as map
@@ -20,7 +22,7 @@ use Rattle.paper_readings.specs.Table.{Agree}
 use Rattle.paper_readings.specs.Forms.{forms, given}
 
 pub forms-agree : Agree forms
-unfolding forms headerAt sizedAt packetAt be knownType mpegType wrongForm textOk items.splitItems items.sectionOf items.itemsSize judge.formOf judge.isKnown judge.faultOf judge.countsAs judge.has judge.judgeItems judge.verdictOf find.find answer.valueOf answer.allowed answer.codeOf answer.isNull answer.materialOf answer.trackOf tracks.splitTracks tracks.tracksOf tracks.trackOver tracks.trackVerdict tracks.endVerdict tracks.judgeTracks tracks.tracksVerdict tracks.isListed tracks.listed tracks.recordOf tracks.kthOf map.afterMaterial map.layoutOf map.bothVerdict map.sectionsVerdict map.mapVerdict map.materialSays map.listedIn map.answerOf map.mapAt map.trackIn map.trackAt name.openedOf name.unended name.nameIn name.nameAt name.nameOfTwoAt
+unfolding forms headerAt sizedAt packetAt be knownType mpegType wrongForm textOk items.splitItems items.sectionOf items.itemsSize judge.formOf judge.isKnown judge.faultOf judge.countsAs judge.has judge.judgeItems judge.verdictOf find.find answer.valueOf answer.allowed answer.codeOf answer.isNull answer.materialOf answer.trackOf aspect.aspectOf aspect.textAspect readOf tracks.splitTracks tracks.tracksOf tracks.trackOver tracks.trackVerdict tracks.endVerdict tracks.judgeTracks tracks.tracksVerdict tracks.isListed tracks.listed tracks.recordOf tracks.kthOf map.afterMaterial map.layoutOf map.bothVerdict map.sectionsVerdict map.mapVerdict map.materialSays map.listedIn map.answerOf map.mapAt map.trackIn map.trackAt name.openedOf name.unended name.nameIn name.nameAt name.nameOfTwoAt
 forms-agree = (refl, (refl, (refl, (refl, (refl, (refl, (refl, (refl, (refl, (refl, (refl, (refl, (refl, (refl, (refl, (refl, (refl, (refl, (refl, (refl, (refl, (refl, (refl, (refl, (refl, (refl, (refl, (refl, (refl, (refl, (refl, (refl, (refl, (refl, (refl, (refl, (refl, (refl, (refl, (refl, (refl, (refl, (refl, (refl, (refl, (refl, (refl, (refl, (refl, tt)))))))))))))))))))))))))))))))))))))))))))))))))
 
 pub given-agree : Agree given

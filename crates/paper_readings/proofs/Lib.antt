@@ -1,3 +1,4 @@
+pub mod Aspects
 pub mod Calls
 pub mod Cases
 pub mod Forms

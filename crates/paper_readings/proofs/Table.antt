@@ -12,6 +12,7 @@ use Rattle.packet.specs.Packet.{headerAt, sizedAt, packetAt}
 use Rattle.map_items.specs.Items as items
 use Rattle.map_items.specs.Judge as judge
 use Rattle.map_items.specs.Find as find
+use Rattle.map_aspect.specs.Aspect as aspect
 use Rattle.map_answer.specs.Answer as answer
 use Rattle.map_tracks.specs.Tracks as tracks
 use Rattle.map.specs.Map as map
@@ -32,7 +33,7 @@ use Rattle.mpeg.proofs.Worked as worked
 use Rattle.paper_readings.specs.Table.{Agree, textMeans, brHalf, readings}
 
 pub readings-agree : Agree readings
-unfolding readings headerAt sizedAt packetAt be knownType mpegType wrongForm textOk items.splitItems items.sectionOf items.itemsSize judge.formOf judge.isKnown judge.faultOf judge.countsAs judge.has judge.judgeItems judge.verdictOf find.find answer.valueOf answer.allowed answer.codeOf answer.isNull answer.materialOf answer.trackOf tracks.splitTracks tracks.tracksOf tracks.trackOver tracks.trackVerdict tracks.endVerdict tracks.judgeTracks tracks.tracksVerdict tracks.isListed tracks.listed tracks.recordOf tracks.kthOf tracks.idOf map.afterMaterial map.layoutOf map.bothVerdict map.sectionsVerdict map.mapVerdict map.materialSays map.listedIn map.answerOf map.trackIn map.mapAt map.trackAt name.openedOf name.unended name.nameIn name.nameAt le locator.positionAt locator.positionOf locator.tableOf answer.meaningOf mpeg.readOf mpeg.judgeLines mpeg.taken mpeg.parametersAnswer lines.linesAt lines.linesFrom lines.labelAt text.givenBy text.givenIn parameter.lacking parameter.parametersOf parameter.valueOfRow parameter.numberOf parameter.given parameter.wanting parameter.amountOf row.table row.rowAt row.otherRow row.rowFor row.rowOf decimal.rateOf decimal.wholeOf decimal.numeralOf decimal.fractionOf decimal.digits scan.run scan.runEnd scan.alnum scan.other meaning.meaningOf parameter.millionths Ieee.toBits Ieee.div Ieee.ofInt Ieee.round
+unfolding readings headerAt sizedAt packetAt be knownType mpegType wrongForm textOk items.splitItems items.sectionOf items.itemsSize judge.formOf judge.isKnown judge.faultOf judge.countsAs judge.has judge.judgeItems judge.verdictOf find.find answer.valueOf answer.allowed answer.codeOf answer.isNull answer.materialOf answer.trackOf aspect.aspectOf tracks.splitTracks tracks.tracksOf tracks.trackOver tracks.trackVerdict tracks.endVerdict tracks.judgeTracks tracks.tracksVerdict tracks.isListed tracks.listed tracks.recordOf tracks.kthOf tracks.idOf map.afterMaterial map.layoutOf map.bothVerdict map.sectionsVerdict map.mapVerdict map.materialSays map.listedIn map.answerOf map.trackIn map.mapAt map.trackAt name.openedOf name.unended name.nameIn name.nameAt le locator.positionAt locator.positionOf locator.tableOf answer.meaningOf mpeg.readOf mpeg.judgeLines mpeg.taken mpeg.parametersAnswer lines.linesAt lines.linesFrom lines.labelAt text.givenBy text.givenIn parameter.lacking parameter.parametersOf parameter.valueOfRow parameter.numberOf parameter.given parameter.wanting parameter.amountOf row.table row.rowAt row.otherRow row.rowFor row.rowOf decimal.rateOf decimal.wholeOf decimal.numeralOf decimal.fractionOf decimal.digits scan.run scan.runEnd scan.alnum scan.other meaning.meaningOf parameter.millionths Ieee.toBits Ieee.div Ieee.ofInt Ieee.round
 readings-agree = (refl, (refl, (refl, (refl, (refl, (refl, (refl, (refl, (refl, (refl, (refl, (refl, (refl, (refl, (refl, (refl, (refl, (refl, (refl, tt)))))))))))))))))))
 
 -- the last reading over the contract of `mpeg::read`: whatever outcome it allows on that text means that

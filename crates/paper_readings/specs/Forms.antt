@@ -4,6 +4,7 @@ use mathlib.Core.List.{List, [], _∷_, _++_}
 use lib.ListN.{length, replicate}
 use Rattle.plate.specs.Plate.{refusal}
 use Rattle.map_items.specs.declared.Part.the-variants as part
+use Rattle.map_aspect.specs.declared.Aspect.the-variants as aspect
 use Rattle.map_answer.specs.declared.Value.the-variants as value
 use Rattle.map_answer.specs.declared.Code.the-variants as code
 use Rattle.map.specs.Map as map
@@ -25,13 +26,13 @@ use Rattle.map_writer.proofs.Worked.{absent, at, material, track as trackGiven,
 use Rattle.paper_readings.specs.Table.{Reading}
 
 -- a map with the material of M and a track section, from 28 on, of up to 200 bytes
-abbrev tracked : List ℕ → List ℕ
+abbrev pub tracked : List ℕ → List ℕ
 tracked ts =
     headed 0xBC (28 + length ts + (4 - length ts % 4) % 4)
     ++ (0xE0 ∷ 0xFF ∷ 0 ∷ 6 ∷ 0x41 ∷ 4 ∷ 0 ∷ 0 ∷ 0 ∷ 0 ∷ 0 ∷ length ts ∷ ts)
     ++ replicate ((4 - length ts % 4) % 4) 0
 
-abbrev track : ℕ → ℕ → List ℕ → List ℕ
+abbrev pub track : ℕ → ℕ → List ℕ → List ℕ
 track typeByte id is = typeByte ∷ id ∷ 0 ∷ length is ∷ is
 
 -- one track of ID 1, its items from 32 on; M is that with type byte 8A, the name A1 and a rate
@@ -42,7 +43,7 @@ with typeByte is = tracked (track typeByte 0xC1 is)
 abbrev pub name : List ℕ
 name = 0x4C ∷ 3 ∷ 0x41 ∷ 0x31 ∷ 0 ∷ []
 
-abbrev null : List ℕ
+abbrev pub null : List ℕ
 null = 0x4C ∷ 1 ∷ 0 ∷ []
 
 abbrev pub rate : List ℕ
@@ -71,7 +72,7 @@ listing s n = gives s (map-answer.Says (saying n (value.Is 0)))
 abbrev named : List ℕ → List ℕ → ℕ → Reading
 named opening closing p = record { Answer = TwoAnswer; gives = names.nameOfTwoAt opening closing 1; says = two-answer.Refused (refusal 29 p) }
 
--- the record of track 1, of a type, with a null name at a place: neither a 4D nor a 4F is shown
+-- the record of track 1, of a type, with a null name at a place: neither a 4D nor a 4F is shown, and no aspect
 abbrev hidden : List ℕ → ℕ → ℕ → Reading
 hidden s mediaType at =
     record {
@@ -89,6 +90,7 @@ hidden s mediaType at =
             name = part.At at 1;
             aux = part.Absent;
             mpeg = part.Absent;
+            aspect = aspect.Unknown;
           });
     }
 
@@ -162,7 +164,7 @@ abbrev writing : ℕ → List ℕ → List ℕ → WriteAnswer → Reading
 writing n lent ts a = record { Answer = WriteAnswer; gives = writer.mapAnswer (replicate n 7) 0 lent (material 0) ts; says = a }
 
 -- a track without a name, with slots for a 4D and a 4F
-abbrev formed : ℕ → ℕ → List ℕ → List ℕ → List ℕ
+abbrev pub formed : ℕ → ℕ → List ℕ → List ℕ → List ℕ
 formed mediaType id aux mpeg = (mediaType ∷ id ∷ []) ++ absent ++ aux ++ absent ++ mpeg ++ replicate 9 0
 
 -- eight bytes for a 4D

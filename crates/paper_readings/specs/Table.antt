@@ -11,6 +11,7 @@ use Rattle.plate.specs.Plate.{refusal, torn}
 use Rattle.plate.specs.declared.Refusal.{Refusal}
 use Rattle.map_items.specs.declared.Part.the-variants as part
 use Rattle.map_answer.specs.Answer as answer
+use Rattle.map_aspect.specs.declared.Aspect.the-variants as aspect
 use Rattle.map_answer.specs.declared.Value.the-variants as value
 use Rattle.map_answer.specs.declared.Code.{Code}
 use Rattle.map_answer.specs.declared.Code.the-variants as code
@@ -54,7 +55,7 @@ header s a = record { Answer = PacketAnswer; gives = headerAt s 0; says = a }
 abbrev firstField0 : MapAnswer
 firstField0 = map-answer.Says (saying 1 (value.Is 0))
 
--- its track: ID 1, type 10, a name of three stored bytes at 34, and a rate
+-- its track: ID 1, type 10, a name of three stored bytes at 34, a rate, and no aspect
 abbrev track1 : Code → TrackAnswer
 track1 rate =
     track-answer.Record
@@ -68,6 +69,7 @@ track1 rate =
       name = part.At 34 3;
       aux = part.Absent;
       mpeg = part.Absent;
+      aspect = aspect.Unknown;
     })
 
 abbrev mapOf : List ℕ → MapAnswer → Reading

@@ -4,6 +4,7 @@ use map::TrackAnswer;
 use map_answer::Code;
 use map_answer::Track;
 use map_answer::Value;
+use map_aspect::Aspect;
 use map_items::Part;
 use probe_records::After;
 ghost use Prim.Native.Nat.{_≤_};
@@ -20,6 +21,7 @@ fn start() -> Track {
         name: Part::At(0, 0),
         aux: Part::At(0, 0),
         mpeg: Part::At(0, 0),
+        aspect: Aspect::SixteenByNine,
     }
 }
 
@@ -36,6 +38,14 @@ fn value_number(v: Value) -> u64 {
     match v {
         Value::Is(n) => n as u64,
         Value::Absent => 0x1_0000_0000,
+    }
+}
+
+fn aspect_number(a: Aspect) -> u64 {
+    match a {
+        Aspect::FourByThree => 0,
+        Aspect::SixteenByNine => 1,
+        Aspect::Unknown => 2,
     }
 }
 
@@ -77,9 +87,12 @@ fn same_parts(a: Track, b: Track) -> bool {
 fn same(a: Track, b: Track) -> bool {
     let v = a.version;
     let w = b.version;
+    let c = a.aspect;
+    let d = b.aspect;
     a.id == b.id
         && a.media_type == b.media_type
         && value_number(v) == value_number(w)
+        && aspect_number(c) == aspect_number(d)
         && same_codes(a, b)
         && same_parts(a, b)
 }

@@ -3,6 +3,7 @@ use map_answer::Code;
 use map_answer::Material;
 use map_answer::Track;
 use map_answer::Value;
+use map_aspect::Aspect;
 use map_items::Part;
 
 fn value(out: &mut [u8], at: usize, v: Value) -> usize {
@@ -28,6 +29,14 @@ fn code(out: &mut [u8], at: usize, c: Code) -> usize {
         Code::NotApplicable => probe_line::say(out, at, b" -1"),
         Code::NotAvailable => probe_line::say(out, at, b" -2"),
         Code::Absent => probe_line::say(out, at, b" -"),
+    }
+}
+
+fn aspect(out: &mut [u8], at: usize, a: Aspect) -> usize {
+    match a {
+        Aspect::FourByThree => probe_line::figure(out, at, 0),
+        Aspect::SixteenByNine => probe_line::figure(out, at, 1),
+        Aspect::Unknown => probe_line::say(out, at, b" -"),
     }
 }
 
@@ -68,5 +77,7 @@ pub fn record(out: &mut [u8], at: usize, t: Track) -> usize {
     let p = t.aux;
     let k = part(out, k, p);
     let p = t.mpeg;
-    part(out, k, p)
+    let k = part(out, k, p);
+    let a = t.aspect;
+    aspect(out, k, a)
 }

@@ -8,6 +8,7 @@ use map::TrackAnswer;
 use map_answer::Code;
 use map_answer::Material;
 use map_answer::Value;
+use map_aspect::Aspect;
 use mpeg::MpegAnswer;
 use mpeg_parameter::ParameterValue;
 use stream::CheckAnswer;
@@ -90,6 +91,20 @@ fn show_name(s: &[u8], id: usize) {
     say(map_name::name(s, id));
 }
 
+fn show_aspect(a: Aspect) {
+    match a {
+        Aspect::FourByThree => {
+            say(b", aspect 4x3");
+        }
+        Aspect::SixteenByNine => {
+            say(b", aspect 16x9");
+        }
+        Aspect::Unknown => {
+            say(b", aspect unknown");
+        }
+    }
+}
+
 fn show_track(s: &[u8], k: usize) {
     match map::track(s, 0, k) {
         TrackAnswer::Record(t) => {
@@ -103,6 +118,8 @@ fn show_track(s: &[u8], k: usize) {
             show_code(b", rate", rate);
             show_code(b", lines", lines);
             show_code(b", fields", fields);
+            let aspect = t.aspect;
+            show_aspect(aspect);
             show_name(s, number::wide(t.id));
             say(b"\n");
         }

@@ -7,6 +7,7 @@ use map_answer::Code;
 use map_answer::Material;
 use map_answer::Track;
 use map_answer::Value;
+use map_aspect::Aspect;
 use map_items::Part;
 use packet::PacketAnswer;
 
@@ -142,6 +143,26 @@ fn same_codes(a: Track, b: Track) -> bool {
     same_value(x, y)
 }
 
+fn same_aspect(a: Aspect, b: Aspect) -> bool {
+    match a {
+        Aspect::FourByThree => match b {
+            Aspect::FourByThree => true,
+            Aspect::SixteenByNine => false,
+            Aspect::Unknown => false,
+        },
+        Aspect::SixteenByNine => match b {
+            Aspect::FourByThree => false,
+            Aspect::SixteenByNine => true,
+            Aspect::Unknown => false,
+        },
+        Aspect::Unknown => match b {
+            Aspect::FourByThree => false,
+            Aspect::SixteenByNine => false,
+            Aspect::Unknown => true,
+        },
+    }
+}
+
 fn same_track(p: &[u8], a: Track, q: &[u8], b: Track) -> bool {
     if same_codes(a, b) {} else {
         return false;
@@ -158,7 +179,12 @@ fn same_track(p: &[u8], a: Track, q: &[u8], b: Track) -> bool {
     }
     let x = a.mpeg;
     let y = b.mpeg;
-    same_part(p, x, q, y)
+    if same_part(p, x, q, y) {} else {
+        return false;
+    }
+    let x = a.aspect;
+    let y = b.aspect;
+    same_aspect(x, y)
 }
 
 // The k-th track: a record in both that is the same, or a refusal with 16 in both.
@@ -226,6 +252,37 @@ fn show_count(p: &[u8]) {
     }
 }
 
+fn show_aspect(a: Aspect) {
+    match a {
+        Aspect::FourByThree => {
+            say(b" 4x3");
+        }
+        Aspect::SixteenByNine => {
+            say(b" 16x9");
+        }
+        Aspect::Unknown => {
+            say(b" -");
+        }
+    }
+}
+
+// The aspects of a map's tracks, 64 at most; a track behind the last says nothing.
+fn show_aspects(p: &[u8]) {
+    let mut k: usize = 0;
+    while k < 64 {
+        match map::track(p, 0, k) {
+            TrackAnswer::Record(t) => {
+                let a = t.aspect;
+                show_aspect(a);
+            }
+            TrackAnswer::Refused(_) => {
+                return;
+            }
+        }
+        k += 1;
+    }
+}
+
 fn show_pair(label: &[u8], n: usize, p: &[u8], q: &[u8]) {
     say(label);
     figure(n);
@@ -236,10 +293,14 @@ fn show_pair(label: &[u8], n: usize, p: &[u8], q: &[u8]) {
     say(b" bytes,");
     show_count(p);
     if same_answer(p, q) {
-        say(b", alike\n");
+        say(b", alike:");
     } else {
-        say(b", unlike\n");
+        say(b", unlike:");
     }
+    show_aspects(p);
+    say(b" and");
+    show_aspects(q);
+    say(b"\n");
 }
 
 // The length of the packet at a place; 0 where there is none.

@@ -227,7 +227,7 @@ module _ {M : Type 1} (𝓤 : URA M) (H : Heap 𝓤) (A : Atoms 𝓤) (W : Given
             let l : i .0 < length (zs (i .0)) = subst (λ (m : ℕ). i .0 < m) (sym (length-upTo (i .0) ts ys)) inside in
             let small : i .0 < 2 ^ 64 = lt-of-le-of-lt (i .1) fit in
             let more : Fits w64 (i .0 + 1) = record { fits = lt-of-le-of-lt (add-one-le less) fit } in
-            let room : Fits w64 (i .0 * 88) = scaled-fits (i .0) (length ys) 88 inside (gn .1) in
+            let room : Fits w64 (i .0 * 96) = scaled-fits (i .0) (length ys) 96 inside (gn .1) in
             assigns ! (bin ! (load ! (from ! (stop !)) (look ! 14 refl)) (load ! (from ! (stop !)) (look ! 16 refl)) tt) (from ! (stop !)) (init ! 12 refl (tt, tt)) $
             rewrite ! 12 (λ (y : Bool). ‵ (fat fullShare tyBool l₈ 0 (vbool y))) e refl $ stays ! (load ! (from ! (stop !)) (look ! 12 refl)) $
             -- the bytes are lent to the call, and a copy of what they own is kept
@@ -242,7 +242,7 @@ module _ {M : Type 1} (𝓤 : URA M) (H : Heap 𝓤) (A : Atoms 𝓤) (W : Given
             land ! (from ! (stop !)) (init ! 11 refl (LL.lawful T.the-type T′.the-laws 𝓤 H A W .typed t _ is .0)) $
             assigns ! (bin ! (load ! (from ! (stop !)) (look ! 15 refl)) (lit ! tt) room) (from ! (stop !)) (init ! 9 refl (tt, room)) $
             assigns ! (bin ! (load ! (from ! (fld ! refl (stop !))) (look-in ! 27 (sub ! 0 refl (whole !)))) (load ! (from ! (stop !)) (look ! 9 refl)) tt) (from ! (stop !)) (init ! 7 refl (tt, tt)) $
-            rewrite ! 7 (λ (p : ℕ). ‵ (fat fullShare tyPtr l₁₁ 0 (vptr b p))) (sym (place-is 88 o (i .0))) refl $
+            rewrite ! 7 (λ (p : ℕ). ‵ (fat fullShare tyPtr l₁₁ 0 (vptr b p))) (sym (place-is 96 o (i .0))) refl $
             move ! (3 ∷ []) $ elem-out ! T.the-row (Is T.the-row) (shows 𝓤 H A T.the-row) (LL.vals T.the-type T′.the-laws) (LL.tells T.the-type T′.the-laws) fullShare (zs (i .0)) (i .0) t b o l (λ _.
             assigns ! (of-opd ! (load ! (from ! (stop !)) (look ! 13 refl))) (from ! (hop ! (look ! 9 refl) (stop !))) (store-raw ! 0 refl (LL.lawful T.the-type T′.the-laws 𝓤 H A W .typed t _ is .0)) $
             move ! (1 ∷ []) $ drop ! $ move ! (0 ∷ 2 ∷ []) $ elem-put ! T.the-row fullShare (zs (i .0)) (i .0) t (v ∷ []) b o l $

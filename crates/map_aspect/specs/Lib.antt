@@ -1,0 +1,2 @@
+pub mod Aspect
+pub mod Meaning
