@@ -18,7 +18,10 @@ use Rattle.map.specs.Map as map
 use Rattle.map.specs.declared.TrackAnswer.{TrackAnswer}
 use Rattle.map.specs.declared.TrackAnswer.the-variants as track-answer
 use Rattle.map_records.specs.Fill as fill
-use Rattle.map_records.specs.Inside.{blank}
+use Rattle.map_items.specs.declared.Part.the-variants as part
+use Rattle.map_answer.specs.declared.Track.{Track}
+use Rattle.map_answer.specs.declared.Code.the-variants as code
+use Rattle.map_answer.specs.declared.Value.the-variants as value
 use Rattle.map_newer.specs.Strike.{strike, inTrack, setIn}
 use Rattle.map_writer.specs.Write as writer
 use Rattle.map_writer.proofs.Worked.{absent, at, material}
@@ -52,12 +55,27 @@ caseIn (track-answer.Refused r) = []
 abbrev shows : List ℕ → Aspect → Reading
 shows s a = record { Answer = List Aspect; gives = caseIn (map.trackAt s 0 0); says = a ∷ [] }
 
--- three lent records, in which nothing is present, after a call
+-- three lent records after a call; before it each is one that no map gives, with the aspect 16x9
+abbrev before : Track
+before =
+    record {
+      id = 255;
+      «media_type» = 255;
+      rate = code.Absent;
+      lines = code.Absent;
+      fields = code.Absent;
+      version = value.Absent;
+      name = part.Absent;
+      aux = part.Absent;
+      mpeg = part.Absent;
+      aspect = SixteenByNine;
+    }
+
 abbrev lent : List ℕ → List Number → Reading
 lent s ns =
     record {
       Answer = List Number;
-      gives = each (λ t. numberOf (t .aspect)) (fill.lentAfter (fill.recordsAt s 0) (replicate 3 blank) (fill.answerFor s 0 3));
+      gives = each (λ t. numberOf (t .aspect)) (fill.lentAfter (fill.recordsAt s 0) (replicate 3 before) (fill.answerFor s 0 3));
       says = ns;
     }
 
@@ -269,7 +287,7 @@ aspects =
     ∷ byNumber (replicate 60 7 ++ two) 60 1 (is 1)
     ∷ byId two 1 (is 0)
     ∷ byId two 2 (is 1)
-    ∷ lent two (is 0 ∷ is 1 ∷ none ∷ [])
+    ∷ lent two (is 0 ∷ is 1 ∷ is 1 ∷ [])
     -- struck of an unknown item and a reserved rate, and with an unknown item set in before the 4D or the 4F
     ∷ byNumber (strike (with 0x8D (name ++ unknown ++ reserved ++ binary 0x10 0x40))) 0 0 (is 1)
     ∷ byNumber (strike (with 0x8B (name ++ unknown ++ text (parameters ++ ar 0x31)))) 0 0 (is 1)
