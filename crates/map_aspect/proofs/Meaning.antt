@@ -82,7 +82,7 @@ module _ (mediaType : ℕ) (aux text : List ℕ) where
   says-invalid w (inr (t, q)) h e = by-50 t ∙ by-invalid 0 aux h e
 
 -- the list of MPEG types, by its numbers
-mpeg-is : (t : ℕ) → Mpeg t → mpegType t ≡ true
+pub mpeg-is : (t : ℕ) → Mpeg t → mpegType t ≡ true
 unfolding mpegType
 mpeg-is t (inl e) = rw e refl
 mpeg-is t (inr (inl e)) = rw e refl

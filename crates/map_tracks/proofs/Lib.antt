@@ -1,3 +1,4 @@
+pub mod AnyText
 pub mod Anywhere
 pub mod Bits
 pub mod ById

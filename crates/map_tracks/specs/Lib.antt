@@ -1,3 +1,4 @@
+pub mod AnyText
 pub mod Inside
 pub mod Tracks
 pub mod WrongForm

@@ -15,6 +15,7 @@ use Rattle.map_aspect.specs.declared.Aspect.the-variants.{Unknown}
 use Rattle.map_aspect.proofs.Meaning.{by-text, aspect-says, none-shown}
 use Rattle.map_answer.specs.declared.Track.{Track}
 use Rattle.map_tracks.specs.declared.Kth.the-variants as kth
+use Rattle.map_tracks.proofs.AnyText.{any-text}
 use Rattle.map.specs.Map.{trackAt}
 use Rattle.map.specs.View.{TrackView, MapView, trackViewIn, viewIn}
 use Rattle.map.specs.Aspect.{AspectIn}
@@ -91,6 +92,7 @@ aspects =
       says = aspect-says;
       none-shown = none-shown;
       reader = by-reader;
+      any-text = any-text;
       read-so = aspects-agree;
       records = record-aspects.aspects;
       track = λ s at k w q t g. of-position s at k w t q (sym (track-is s at k _ g));

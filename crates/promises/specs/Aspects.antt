@@ -13,6 +13,7 @@ use Rattle.map_aspect.specs.Aspect.{byAnswer, aspectOf}
 use Rattle.map_aspect.specs.Meaning.{Mpeg, AspectSays, NoneShown}
 use Rattle.map_aspect.specs.declared.Aspect.{Aspect}
 use Rattle.map_answer.specs.declared.Track.{Track}
+use Rattle.map_tracks.specs.AnyText.{AnyText}
 use Rattle.map_tracks.specs.declared.Kth.the-variants as kth
 use Rattle.map.specs.Map.{trackAt}
 use Rattle.map.specs.View.{TrackView, viewIn}
@@ -45,6 +46,8 @@ pub record Aspects : Type 0 where
   pub none-shown : NoneShown
   -- of MPEG video it is by whatever `mpeg::read` gives of the text
   pub reader : (mediaType : ℕ) (aux text : List ℕ) → Mpeg mediaType → (x : MpegAnswer) → Parameters text x → aspectOf mediaType aux text ≡ byAnswer x
+  -- what a 4F says brings no refusal: a track of MPEG video that passes does so with any other text in it
+  pub any-text : AnyText
   -- the readings of the request, of whole maps
   pub read-so : Agree aspects
   -- a record's aspect is by its own type and the bytes that it points at, and under a null name unknown; by number, by ID and at a position it is one record
