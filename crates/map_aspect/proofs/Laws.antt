@@ -1,4 +1,4 @@
--- The validity of a 4D by its byte 3, and that no byte of an item is no aspect.
+-- The validity of a 4D by its byte 3, that a short one is not valid, and a text's aspect by its ratio.
 use Prim.Native.Nat.{ℕ, _+_, _*_, _/_, _%_, _<_}
 use mathlib.Core.Path.{_≡_, refl, sym, _∙_}
 use mathlib.Core.Bool.{true, false}
@@ -7,7 +7,14 @@ use native.Mathlib.Omega.{arith}
 use lib.ListN.{length, getD}
 use lib.Dec.{eqb}
 use Rattle.mpeg_scan.proofs.Laws.{past}
-use Rattle.map_aspect.specs.Aspect.{bitAt, validity}
+use Rattle.mpeg.specs.Read.{readOf, ratioOf}
+use Rattle.mpeg.specs.declared.MpegAnswer.{MpegAnswer}
+use Rattle.mpeg.specs.declared.MpegAnswer.the-variants.{Given, Refused}
+use Rattle.mpeg.specs.declared.RatioAnswer.{RatioAnswer}
+use Rattle.mpeg.specs.declared.RatioAnswer.the-variants as ratio
+use Rattle.map_aspect.specs.Aspect.{bitAt, validity, byAr, byAnswer, textAspect}
+use Rattle.map_aspect.specs.declared.Aspect.{Aspect}
+use Rattle.map_aspect.specs.declared.Aspect.the-variants.{Unknown}
 
 -- two highest bits of a byte: as one number, and bit by bit
 two-bits : (b : ℕ) → b < 256 → b / 64 ≡ b / 64 % 2 + 2 * (b / 128 % 2)
@@ -33,3 +40,16 @@ short v h = rw (short-none v h) refl
 pub valid-some : (v : List ℕ) → eqb (validity v) 1 ≡ true → 0 < length v
 valid-some [] e = absurd (let f : true ≡ false = sym e ∙ short [] (omega arith) in let z : _≡_ {A = ℕ} 0 1 = cc in omega arith)
 valid-some (x ∷ v) e = omega arith
+
+-- a text's aspect goes by its ratio alone
+abbrev pub byRatio : RatioAnswer → Aspect
+byRatio (ratio.Given x) = byAr x
+byRatio (ratio.Refused r) = Unknown
+
+pub text-ratio : (v : List ℕ) → byRatio (ratioOf (readOf v)) ≡ textAspect v
+unfolding textAspect ratioOf
+text-ratio v = go (readOf v)
+  where
+    go : (a : MpegAnswer) → byRatio (ratioOf a) ≡ byAnswer a
+    go (Given x) = refl
+    go (Refused r) = refl

@@ -1,5 +1,5 @@
 // The aspect of a track, 4x3 or 16x9, by its type and by the bytes of its 4D and 4F. No picture is opened.
-use mpeg::MpegAnswer;
+use mpeg::RatioAnswer;
 use mpeg_parameter::ParameterValue;
 ghost use mathlib.Core.Path.{_≡_};
 ghost use lib.Dec.{eqb};
@@ -60,15 +60,12 @@ fn of_dv_50(v: &[u8]) -> Aspect
 fn of_text(v: &[u8]) -> Aspect
     ensures { λ r. ⌜ r ≡ textAspect (now (v .entry)) ⌝ }
 {
-    match mpeg::read(v) {
-        MpegAnswer::Refused(_) => Aspect::Unknown,
-        MpegAnswer::Given(x) => {
-            let ar = x.ar;
-            match ar {
-                ParameterValue::Whole(n) => of_number(n),
-                ParameterValue::Rate(_) => Aspect::Unknown,
-            }
-        }
+    match mpeg::ratio(v) {
+        RatioAnswer::Refused(_) => Aspect::Unknown,
+        RatioAnswer::Given(ar) => match ar {
+            ParameterValue::Whole(n) => of_number(n),
+            ParameterValue::Rate(_) => Aspect::Unknown,
+        },
     }
 }
 

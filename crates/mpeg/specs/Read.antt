@@ -15,6 +15,8 @@ use Rattle.mpeg.specs.declared.Verdict.{Verdict}
 use Rattle.mpeg.specs.declared.Verdict.the-variants.{Fine, Bad}
 use Rattle.mpeg.specs.declared.MpegAnswer.{MpegAnswer}
 use Rattle.mpeg.specs.declared.MpegAnswer.the-variants.{Given, Refused}
+use Rattle.mpeg.specs.declared.RatioAnswer.{RatioAnswer}
+use Rattle.mpeg.specs.declared.RatioAnswer.the-variants as ratio
 
 -- the first fault, if any, and the fourteen slots as the lines up to there leave them
 pub record Judged : Type 0 where
@@ -60,3 +62,8 @@ read j = ended (j .slots) (j .verdict)
 -- the text rule first; the closing 00 is no part of the lines
 unfoldable pub readOf : List ℕ → MpegAnswer
 readOf v = pick (textOk v) (read (judgeLines (replicate 14 0) (linesAt (take (length v - 1) v) 0))) (Refused (refusal 11 0))
+
+-- of an answer `ar` alone, or the refusal
+unfoldable pub ratioOf : MpegAnswer → RatioAnswer
+ratioOf (Given x) = ratio.Given (x .ar)
+ratioOf (Refused r) = ratio.Refused r

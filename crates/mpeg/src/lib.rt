@@ -1,5 +1,6 @@
 // MPEG auxiliary text: lines of an identifier and a value, read into every parameter of Table 7.
 use mpeg_decimal::Amount;
+use mpeg_parameter::ParameterValue;
 use mpeg_parameter::Parameters;
 use plate::Refusal;
 ghost use mathlib.Core.Path.{_≡_};
@@ -8,11 +9,16 @@ ghost use lib.ListN.{length, getD};
 ghost use lib.Dec.{eqb};
 ghost use Rattle.mpeg_parameter.specs.Table.{rowOf};
 ghost use Rattle.mpeg.specs.Lines.{labelAt, valueThen, linesAt};
-ghost use Rattle.mpeg.specs.Read.{taken, judgeLines, parametersAnswer, readOf};
+ghost use Rattle.mpeg.specs.Read.{taken, judgeLines, parametersAnswer, readOf, ratioOf};
 ghost use Rattle.mpeg.specs.Inside.{Agrees, Skipped};
 
 pub enum MpegAnswer {
     Given(Parameters),
+    Refused(Refusal),
+}
+
+pub enum RatioAnswer {
+    Given(ParameterValue),
     Refused(Refusal),
 }
 
@@ -140,6 +146,34 @@ fn value(s: &[u8], line: usize, k: usize, at: usize, slots: &mut [u64; 14]) -> V
     Verdict::Bad(plate::refuse(plate::AUXILIARY_LINE, line))
 }
 
+// The lines one after another, in one loop. `ident` and `value` judge them in turns, as the paper has it; this takes less stack, for who wants one parameter.
+fn in_order(s: &[u8], slots: &mut [u64; 14]) -> Verdict
+    ensures { λ r. ⌜ Agrees (judgeLines (now (slots .entry)) (linesAt (now (s .entry)) 0)) r (now (slots .exit)) ⌝ }
+{
+    let mut at: usize = 0;
+    while at < s.len() {
+        match label_at(s, at) {
+            Label::Broken => {
+                return Verdict::Bad(plate::refuse(plate::AUXILIARY_LINE, at));
+            }
+            Label::Names(k, v) => {
+                let e = mpeg_scan::until(s, v, 0x0A);
+                if s.len() <= e {
+                    return Verdict::Bad(plate::refuse(plate::AUXILIARY_LINE, at));
+                }
+                match take_line(slots, at, k, &s[v..e]) {
+                    Verdict::Bad(r) => {
+                        return Verdict::Bad(r);
+                    }
+                    Verdict::Fine => {}
+                }
+                at = e + 1;
+            }
+        }
+    }
+    Verdict::Fine
+}
+
 // What slots come to at the end: 27, or every parameter.
 fn answer(slots: &[u64; 14]) -> MpegAnswer
     ensures { λ r. ⌜ r ≡ parametersAnswer (now (slots .entry)) ⌝ }
@@ -163,4 +197,29 @@ pub fn read(v: &[u8]) -> MpegAnswer
         };
     }
     MpegAnswer::Refused(plate::refuse(plate::TEXT, 0))
+}
+
+// What slots come to at the end, where `ar` alone is wanted.
+fn ratio_in(slots: &[u64; 14]) -> RatioAnswer
+    ensures { λ r. ⌜ r ≡ ratioOf (parametersAnswer (now (slots .entry))) ⌝ }
+{
+    if mpeg_parameter::is_lacking(slots) {
+        return RatioAnswer::Refused(plate::refuse(plate::NOT_GIVEN, 0));
+    }
+    RatioAnswer::Given(mpeg_parameter::value_of(13, slots[13]))
+}
+
+// The aspect ratio, `ar`, of a text that `read` takes; of any other the same refusal.
+pub fn ratio(v: &[u8]) -> RatioAnswer
+    ensures { λ r. ⌜ r ≡ ratioOf (readOf (now (v .entry))) ⌝ }
+{
+    if text::is_text(v) {
+        let end = v.len() - 1;
+        let mut slots = [0u64; 14];
+        return match in_order(&v[..end], &mut slots) {
+            Verdict::Bad(r) => RatioAnswer::Refused(r),
+            Verdict::Fine => ratio_in(&slots),
+        };
+    }
+    RatioAnswer::Refused(plate::refuse(plate::TEXT, 0))
 }

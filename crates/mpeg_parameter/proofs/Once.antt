@@ -1,10 +1,12 @@
--- Any two outcomes that a public contract of this crate allows are equal.
+-- Any two outcomes that a contract of this crate allows are equal.
 use mathlib.Core.Path.{sym, _∙_}
 use Rattle.plate.proofs.Outcome.{OneAnswer}
 use Rattle.mpeg_parameter.proofs.row_for.Kinds as row-for-kinds
 use Rattle.mpeg_parameter.proofs.row_for.Reads as row-for-reads
 use Rattle.mpeg_parameter.proofs.amount.Kinds as amount-kinds
 use Rattle.mpeg_parameter.proofs.amount.Reads as amount-reads
+use Rattle.mpeg_parameter.proofs.value_of.Kinds as value-of-kinds
+use Rattle.mpeg_parameter.proofs.value_of.Reads as value-of-reads
 use Rattle.mpeg_parameter.proofs.is_lacking.Kinds as is-lacking-kinds
 use Rattle.mpeg_parameter.proofs.is_lacking.Reads as is-lacking-reads
 use Rattle.mpeg_parameter.proofs.parameters_of.Kinds as parameters-of-kinds
@@ -15,6 +17,9 @@ row-for-once κs a x y s t p q = p ∙ sym q
 
 pub amount-once : OneAnswer 1 amount-kinds.ps amount-kinds.r amount-reads.Post
 amount-once κs a x y s t p q = p ∙ sym q
+
+pub value-of-once : OneAnswer 0 value-of-kinds.ps value-of-kinds.r value-of-reads.Post
+value-of-once κs a x y s t p q = p ∙ sym q
 
 pub is-lacking-once : OneAnswer 1 is-lacking-kinds.ps is-lacking-kinds.r is-lacking-reads.Post
 is-lacking-once κs a x y s t p q = p ∙ sym q

@@ -116,7 +116,7 @@ fn number_of(k: usize, slot: u64) -> u64
 }
 
 // The value of a row's parameter: of a rate its millionths, exact, and one division.
-fn value_of(k: usize, slot: u64) -> ParameterValue
+pub fn value_of(k: usize, slot: u64) -> ParameterValue
     ensures { λ r. ⌜ r ≡ valueOfRow (rowAt k) slot ⌝ }
 {
     let n = number_of(k, slot);

@@ -3,19 +3,19 @@ use borrow.Author.Needs.{needs}
 use Rattle.map_aspect.proofs.of_text.Statement.{statement}
 use Rattle.map_aspect.proofs.of_text.Tie as tie
 use mathlib.Core.Path.{sym, _∙_}
-use Rattle.map_aspect.specs.Aspect.{textAspect}
+use Rattle.map_aspect.proofs.Laws.{text-ratio}
 
-read-requires : tie.Need-read-requires
-read-requires c κs = search needs
+ratio-requires : tie.Need-ratio-requires
+ratio-requires c κs = search needs
 
 enum-told : tie.Need-enum-told
 enum-told c = search needs
 
-enum-known-x : tie.Need-enum-known-x
-enum-known-x c = search needs
-
 enum-known-ar : tie.Need-enum-known-ar
 enum-known-ar c = search needs
+
+enum-known-ar-2 : tie.Need-enum-known-ar-2
+enum-known-ar-2 c = search needs
 
 of-number-requires : tie.Need-of-number-requires
 of-number-requires c κs = search needs
@@ -24,25 +24,22 @@ enum-told-2 : tie.Need-enum-told-2
 enum-told-2 c = search needs
 
 returns : tie.Need-returns
-unfolding textAspect
-returns c = simp (sym (c .before .before .read .ensures) ∙ c .enum-told .given .1)
+returns c = rw (← text-ratio (c .before .before .before .before .args .v .now), sym (c .before .before .ratio .ensures) ∙ c .enum-told .given .1)
 
 returns-2 : tie.Need-returns-2
-unfolding textAspect
-returns-2 c = simp (sym (c .before .before .before .before .before .before .before .read .ensures) ∙ c .before .before .before .before .before .x .given .1, c .before .before .ar .given .1) (c .of-number .ensures)
+returns-2 c = rw (← text-ratio (c .before .before .before .before .before .before .before .before .before .args .v .now), sym (c .before .before .before .before .before .before .before .ratio .ensures) ∙ c .before .before .before .before .before .ar .given .1, c .before .before .ar2 .given .1) (c .of-number .ensures)
 
 returns-3 : tie.Need-returns-3
-unfolding textAspect
-returns-3 c = simp (sym (c .before .before .before .before .before .read .ensures) ∙ c .before .before .before .x .given .1, c .enum-told2 .given .1)
+returns-3 c = rw (← text-ratio (c .before .before .before .before .before .before .before .args .v .now), sym (c .before .before .before .before .before .ratio .ensures) ∙ c .before .before .before .ar .given .1, c .enum-told2 .given .1)
 
 pub of-text-spec : {M : Type 1} → statement M
 of-text-spec =
     tie.close
     (tie.spec
-    read-requires
+    ratio-requires
     enum-told
-    enum-known-x
     enum-known-ar
+    enum-known-ar-2
     of-number-requires
     enum-told-2
     returns
