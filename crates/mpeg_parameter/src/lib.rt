@@ -8,32 +8,28 @@ ghost use Rattle.mpeg_parameter.specs.Parameters.{amountOf, given, wanti
 // A row of the table: the identifier's bytes as a number, whether it must be given, whether it is a rate, and its first and last allowed value.
 struct Row(u64, bool, bool, u64, u64);
 
-// Ver, Br, Ipg, Ppi, Bpiop, Pix, Cf, Cg, Sl, nl16, Vi, f1, cbpg, ar; a rate's values are in millionths.
-const TABLE: [Row; 14] = [
-    Row(0x566572, true, false, 1, 1),
-    Row(0x4272, true, true, 0, 9007199254740992),
-    Row(0x497067, true, false, 0, 999999999),
-    Row(0x507069, true, false, 0, 999999999),
-    Row(0x4270696F70, true, false, 0, 999999999),
-    Row(0x506978, true, false, 0, 1),
-    Row(0x4366, true, false, 1, 2),
-    Row(0x4367, true, false, 0, 1),
-    Row(0x536C, true, false, 1, 31),
-    Row(0x6E6C3136, true, false, 0, 999999999),
-    Row(0x5669, true, false, 1, 1),
-    Row(0x6631, true, false, 0, 1),
-    Row(0x63627067, false, false, 0, 1),
-    Row(0x6172, false, false, 0, 1),
-];
-
-// Past the table stands a row that is nobody's.
+// Ver, Br, Ipg, Ppi, Bpiop, Pix, Cf, Cg, Sl, nl16, Vi, f1, cbpg, ar; a rate's values are in millionths. Past the table stands a row that is nobody's.
+// Each row is made where it is asked for: a table in a constant would be put on the stack whole at each call.
 fn row_at(k: usize) -> Row
     ensures { λ r. ⌜ r ≡ rowAt k ⌝ }
 {
-    if k < 14 {
-        return TABLE[k];
+    match k {
+        0 => Row(0x566572, true, false, 1, 1),
+        1 => Row(0x4272, true, true, 0, 9007199254740992),
+        2 => Row(0x497067, true, false, 0, 999999999),
+        3 => Row(0x507069, true, false, 0, 999999999),
+        4 => Row(0x4270696F70, true, false, 0, 999999999),
+        5 => Row(0x506978, true, false, 0, 1),
+        6 => Row(0x4366, true, false, 1, 2),
+        7 => Row(0x4367, true, false, 0, 1),
+        8 => Row(0x536C, true, false, 1, 31),
+        9 => Row(0x6E6C3136, true, false, 0, 999999999),
+        10 => Row(0x5669, true, false, 1, 1),
+        11 => Row(0x6631, true, false, 0, 1),
+        12 => Row(0x63627067, false, false, 0, 1),
+        13 => Row(0x6172, false, false, 0, 1),
+        _ => Row(0, false, false, 0, 0),
     }
-    Row(0, false, false, 0, 0)
 }
 
 // A parameter's value: a whole number, or a rate.
