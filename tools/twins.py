@@ -24,7 +24,7 @@ def text(n=None):
     return bytes(R.randrange(1, 128) for _ in range(R.choice([1, 2, 5, 12, 30]) if n is None else n)) + b'\0'
 
 TEXT = 'Ver 1|Br 0.5|Ipg 1|Ppi 4|Bpiop 2|Pix 0|Cf 1|Cg 0|Sl 7|nl16 36|Vi 1|f1 1'.split('|')
-NUMBERS = {}  # of each text that the auxiliary reader takes, the number of its aspect; any other text here lacks parameters
+NUMBERS = {}  # of each text that the auxiliary reader takes, the number of its aspect; any other text here lacks parameters or is malformed
 
 def auxiliary():
     """a text that has every parameter, its lines in any order, with or without `ar`; or one that is malformed at its end"""

@@ -1,4 +1,4 @@
--- The aspect in a track's record (02, §11): it follows from the record's own type and from the bytes that the record points at. Proved in proofs/Aspect.antt, for every packet, by lengths alone.
+-- The aspect in a track's record (02, §11): it follows from the record's own type and from the bytes that the record points at. Proved in proofs/Aspect.antt, for every packet, by lengths alone; that IDs tell records apart is so in accepted maps.
 use Prim.Native.Nat.{ℕ, _+_}
 use mathlib.Core.Path.{_≡_}
 use mathlib.Core.Bool.{true}
@@ -47,7 +47,7 @@ pub record RecordAspects : Type 0 where
   -- the record of a track by its number has it, and all that the packet shows
   pub by-number : (p : List ℕ) (k : ℕ) (t : Track) → kthOf k (listedIn p) ≡ kth.Record t → AspectIn p t
   pub shown : (p : List ℕ) → AllFollow (viewIn p .tracks)
-  -- by ID, by number and at a position of lent bytes it is one record: the one of an ID has a number, that of a number in an accepted map has its ID, and the reader's is that of its number
+  -- by ID, by number and at a position of lent bytes it is one record: the one of an ID has a number, that of a number in an accepted map is the one of its ID, and the reader's is that of its number
   pub by-id : (p : List ℕ) (id : ℕ) (t : Track) → idOf id (listedIn p) ≡ kth.Record t → (k : ℕ) × (kthOf k (listedIn p) ≡ kth.Record t) × (t .id ≡ id)
   pub id-of : (p : List ℕ) → mapVerdict p ≡ Accepted → (k : ℕ) (t : Track) → kthOf k (listedIn p) ≡ kth.Record t → idOf (t .id) (listedIn p) ≡ kth.Record t
   pub at-position : (s : List ℕ) (at k : ℕ) (w : Packet) (t : Track) → packetAt s at typeMap ≡ packet.Whole w → trackAt s at k ≡ track.Record t → kthOf k (listedIn (part at (at + w .len) s)) ≡ kth.Record t

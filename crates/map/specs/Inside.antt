@@ -34,10 +34,11 @@ materialViewOfItems is =
       size = valueOf (find 0x45 0 is);
     }
 
--- Table 6; a null name hides 4D, 4E and 4F
+-- what is shown of a 4D or a 4F: nothing under a null name
 abbrev pub shownOf : ℕ → List Item → Held
 shownOf tag is = pick (isNull (partOf (find 0x4C 0 is))) nothing (heldOf (find tag 0 is))
 
+-- Table 6; a null name hides 4D, 4E and 4F
 unfoldable pub trackViewOfParts : TrackParts → TrackView
 trackViewOfParts t =
     record {

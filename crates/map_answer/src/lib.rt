@@ -175,7 +175,7 @@ pub fn material_says(s: &[u8], base: usize) -> Material
     }
 }
 
-// Where an item stands that a null name hides.
+// Where an item stands; absent under a null name.
 fn shown(s: &[u8], base: usize, tag: u8, null: bool) -> Part
     requires { ⌜ base + length (now s) < 2 ^ 64 ⌝ }
     ensures { λ r. ⌜ r ≡ pick null Part.Absent (partOf (find tag base (sectionOf (now (s .entry)) .list))) ⌝ }
@@ -186,7 +186,7 @@ fn shown(s: &[u8], base: usize, tag: u8, null: bool) -> Part
     map_items::found(s, base, tag)
 }
 
-// The version, which a null name hides.
+// The version; absent under a null name.
 fn version(s: &[u8], base: usize, null: bool) -> Value
     requires { ⌜ base + length (now s) < 2 ^ 64 ⌝ }
     ensures { λ r. ⌜ r ≡ pick null Value.Absent (valueOf (find 0x4E base (sectionOf (now (s .entry)) .list))) ⌝ }

@@ -32,7 +32,7 @@ Worth mediaType w = (((mediaType ≡ 13) ⊎ (mediaType ≡ 14)) × (w ≡ 16)) 
 abbrev pub Valid : List ℕ → Type 0
 Valid aux = (0x40 ≤ getD aux 3 0) × (getD aux 3 0 ≤ 0x7F)
 
--- of a type, the bytes of a 4D and those of a 4F, with nothing of the definition in it
+-- of a type, the bytes of a 4D and those of a 4F: by numbers alone, and by the auxiliary reader
 pub record AspectSays (mediaType : ℕ) (aux text : List ℕ) : Type 0 where
   -- DV: the bit where the 4D is valid, else unknown
   pub valid : (w : ℕ) → Worth mediaType w → Valid aux → numberOf (aspectOf mediaType aux text) ≡ is (getD aux 0 0 / w % 2)

@@ -1,8 +1,9 @@
 -- The proof of demand 3 through the functions: specs/Functions.antt has the statements.
 use Prim.Native.Nat.{ℕ, zero, suc, _+_, _-_, _<_, _≤_}
-use mathlib.Core.Path.{_≡_, refl, ap, subst, _∙_}
+use mathlib.Core.Path.{_≡_, refl, sym, ap, subst, _∙_}
 use mathlib.Core.Bool.{Bool, true, false}
 use mathlib.Core.List.{List, [], _∷_, _++_, map}
+use native.Mathlib.Omega.{arith}
 use lib.ListN.{length, set, replicate}
 use lib.Dec.{eqb}
 use Rattle.plate.specs.Choice.{pick}
@@ -22,6 +23,7 @@ use Rattle.map_newer.specs.Strike.{strike, setIn}
 use Rattle.map_newer.specs.Demand.{Accepted}
 use Rattle.map_newer.specs.Functions.{ReadGives, TrackGives, viewOfTrackOutcome, kthView, IdGives, TypesGives, IdOutcomeView, viewOfIdOutcome, ofId, typesInView, FillGives, Fills, Answers, Functions}
 use Rattle.map_newer.proofs.Parts.{accepted-verdict, accepted-header}
+use Rattle.map.specs.declared.TrackAnswer.the-variants as track
 use Rattle.map.proofs.Within.{part-there, packet-there, read-there, track-there}
 use Rattle.map_records.specs.Fill.{recordsAt, answerFor, Filled}
 use Rattle.map_records.proofs.Kept.{refused-stays, too-few, enough, beyond-stays, first-records}
@@ -40,6 +42,14 @@ kth-seen m zero [] = refl
 kth-seen m (suc k) [] = refl
 kth-seen m zero (x ∷ xs) = refl
 kth-seen m (suc k) (x ∷ xs) = kth-seen m k xs
+
+-- so what `track` gives on an accepted map is the record of that number
+pub track-numbered : (m : List ℕ) → Accepted m → (k : ℕ) (t : Track) → TrackGives m k (track.Record t) → kthOf k (listedIn m) ≡ kth.Record t
+track-numbered m h k t g = go (kthOf k (listedIn m)) (track-gives m k (track.Record t) g ∙ track-there (g .before) m (g .after) (accepted-header m h) (accepted-verdict m h) k)
+  where
+    go : (x : Kth) → track.Record t ≡ onKth x → x ≡ kth.Record t
+    go (kth.Record u) e = let q : t ≡ u = cc in ap kth.Record (sym q)
+    go kth.Nothing e = absurd (let z : _≡_ {A = ℕ} 0 1 = cc in omega arith)
 
 pub id-gives : (m : List ℕ) (id : ℕ) (y : Kth) → IdGives m id y → y ≡ idOf id (listedIn m)
 id-gives m id y g = rw (← g .bytes, ← g .track) (g .post)

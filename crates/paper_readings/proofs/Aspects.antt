@@ -29,5 +29,5 @@ use Rattle.paper_readings.specs.Table.{Agree}
 use Rattle.paper_readings.specs.Aspects.{aspects}
 
 pub aspects-agree : Agree aspects
-unfolding aspects headerAt sizedAt packetAt be knownType mpegType wrongForm textOk items.splitItems items.sectionOf items.itemsSize judge.formOf judge.isKnown judge.faultOf judge.countsAs judge.has judge.judgeItems judge.verdictOf find.find answer.valueOf answer.allowed answer.codeOf answer.isNull answer.materialOf answer.trackOf aspect.aspectOf aspect.textAspect read.readOf tracks.splitTracks tracks.tracksOf tracks.trackOver tracks.trackVerdict tracks.endVerdict tracks.judgeTracks tracks.tracksVerdict tracks.isListed tracks.listed tracks.recordOf tracks.kthOf map.afterMaterial map.layoutOf map.bothVerdict map.sectionsVerdict map.mapVerdict map.materialSays map.listedIn map.answerOf map.mapAt map.trackIn map.trackAt tracks.idOf aspect.aspectFor aspect.bitAt aspect.validity aspect.dvAspect numberOf read.judgeLines read.taken read.parametersAnswer lines.linesAt lines.linesFrom lines.labelAt parameters.lacking parameters.parametersOf parameters.valueOfRow parameters.numberOf parameters.given parameters.wanting parameters.amountOf rows.table rows.rowAt rows.otherRow rows.rowFor rows.rowOf decimal.rateOf decimal.wholeOf decimal.numeralOf decimal.fractionOf decimal.digits scan.run scan.runEnd scan.alnum scan.other fill.lentAfter fill.recordsAt fill.answerFor strike.strike strike.setIn strike.setInParts strike.setAt strike.setInTrack strike.struck strike.struckTrack strike.kept strike.materialStays strike.trackStays strike.isReserved said.listedOf said.partsOf said.opened encode.encode encode.packetOf encode.front encode.sectionBytes encode.packetLength encode.padding encode.described items.itemsBytes tracks.descriptionsBytes beBytes writer.mapPacket writer.partsGiven writer.itemsOf writer.slotValue given.slots given.tracksFrom faults.isText faults.isEight
-aspects-agree = (refl, (refl, (refl, (refl, (refl, (refl, (refl, (refl, (refl, (refl, (refl, (refl, (refl, (refl, (refl, (refl, (refl, (refl, (refl, (refl, (refl, (refl, (refl, (refl, (refl, (refl, (refl, (refl, (refl, (refl, (refl, (refl, (refl, (refl, (refl, (refl, (refl, (refl, (refl, (refl, (refl, (refl, (refl, (refl, (refl, (refl, (refl, (refl, (refl, (refl, (refl, (refl, (refl, (refl, (refl, (refl, (refl, (refl, (refl, (refl, (refl, (refl, (refl, (refl, (refl, (refl, (refl, (refl, (refl, (refl, (refl, (refl, (refl, (refl, (refl, (refl, (refl, (refl, (refl, (refl, (refl, (refl, (refl, (refl, (refl, (refl, (refl, (refl, (refl, (refl, (refl, (refl, (refl, (refl, (refl, (refl, (refl, (refl, (refl, (refl, (refl, (refl, (refl, (refl, (refl, (refl, (refl, (refl, (refl, (refl, (refl, (refl, (refl, (refl, (refl, (refl, (refl, (refl, (refl, (refl, (refl, (refl, (refl, (refl, (refl, (refl, (refl, (refl, (refl, (refl, (refl, (refl, (refl, (refl, (refl, (refl, (refl, (refl, tt))))))))))))))))))))))))))))))))))))))))))))))))))))))))))))))))))))))))))))))))))))))))))))))))))))))))))))))))))))))))))))))))))))))))))
+unfolding aspects headerAt sizedAt packetAt be knownType mpegType wrongForm textOk items.splitItems items.sectionOf items.itemsSize judge.formOf judge.isKnown judge.faultOf judge.countsAs judge.has judge.judgeItems judge.verdictOf find.find answer.valueOf answer.allowed answer.codeOf answer.isNull answer.materialOf answer.trackOf aspect.aspectOf aspect.textAspect read.readOf tracks.splitTracks tracks.tracksOf tracks.trackOver tracks.trackVerdict tracks.endVerdict tracks.judgeTracks tracks.tracksVerdict tracks.isListed tracks.listed tracks.recordOf tracks.kthOf map.afterMaterial map.layoutOf map.bothVerdict map.sectionsVerdict map.mapVerdict map.materialSays map.listedIn map.answerOf map.mapAt map.trackIn map.trackAt tracks.idOf aspect.aspectFor aspect.bitAt aspect.validity aspect.dvAspect numberOf read.judgeLines read.taken read.parametersAnswer lines.linesAt lines.linesFrom lines.labelAt parameters.lacking parameters.parametersOf parameters.valueOfRow parameters.numberOf parameters.given parameters.wanting parameters.amountOf rows.table rows.rowAt rows.otherRow rows.rowFor rows.rowOf decimal.rateOf decimal.wholeOf decimal.numeralOf decimal.fractionOf decimal.digits scan.run scan.runEnd scan.alnum scan.other fill.lentAfter fill.recordsAt fill.answerFor strike.strike strike.setIn strike.setInParts strike.setAt strike.setInTrack strike.struck strike.struckTrack strike.kept strike.materialStays strike.trackStays strike.isReserved said.listedOf said.partsOf said.opened encode.encode encode.packetOf encode.front encode.sectionBytes encode.packetLength encode.padding encode.described items.itemsBytes tracks.descriptionsBytes beBytes writer.mapPacket writer.partsGiven writer.itemsOf writer.slotValue given.slots given.tracksFrom faults.isText faults.isEight writer.mapAnswer faults.anyWrong faults.givenWrong faults.faultOf faults.slotsFault faults.slotFault faults.fits faults.reads faults.isCode faults.codeFits faults.tracksFault faults.ownFault faults.barred faults.nullName faults.given faults.idsFault faults.idFault
+aspects-agree = (refl, (refl, (refl, (refl, (refl, (refl, (refl, (refl, (refl, (refl, (refl, (refl, (refl, (refl, (refl, (refl, (refl, (refl, (refl, (refl, (refl, (refl, (refl, (refl, (refl, (refl, (refl, (refl, (refl, (refl, (refl, (refl, (refl, (refl, (refl, (refl, (refl, (refl, (refl, (refl, (refl, (refl, (refl, (refl, (refl, (refl, (refl, (refl, (refl, (refl, (refl, (refl, (refl, (refl, (refl, (refl, (refl, (refl, (refl, (refl, (refl, (refl, (refl, (refl, (refl, (refl, (refl, (refl, (refl, (refl, (refl, (refl, (refl, (refl, (refl, (refl, (refl, (refl, (refl, (refl, (refl, (refl, (refl, (refl, (refl, (refl, (refl, (refl, (refl, (refl, (refl, (refl, (refl, (refl, (refl, (refl, (refl, (refl, (refl, (refl, (refl, (refl, (refl, (refl, (refl, (refl, (refl, (refl, (refl, (refl, (refl, (refl, (refl, (refl, (refl, (refl, (refl, (refl, (refl, (refl, (refl, (refl, (refl, (refl, (refl, (refl, (refl, (refl, (refl, (refl, (refl, (refl, (refl, (refl, (refl, (refl, (refl, (refl, (refl, (refl, (refl, (refl, (refl, (refl, (refl, (refl, (refl, (refl, (refl, tt)))))))))))))))))))))))))))))))))))))))))))))))))))))))))))))))))))))))))))))))))))))))))))))))))))))))))))))))))))))))))))))))))))))))))))))))))))))

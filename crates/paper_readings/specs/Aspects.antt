@@ -1,4 +1,4 @@
--- Readings of the aspect in a track's record (02, §11; RDD 14, Tables 7, 8 and 9), each of a whole map. Proved in proofs/Aspects.antt.
+-- Readings of the aspect in a track's record (02, §11; RDD 14, Tables 7, 8 and 9), of whole maps; three are of texts alone, three of what the writer says, two of bytes. Proved in proofs/Aspects.antt.
 use Prim.Native.Nat.{ℕ, suc}
 use mathlib.Core.List.{List, [], _∷_, _++_, map as each}
 use lib.ListN.{length, take, drop, replicate}
@@ -23,6 +23,8 @@ use Rattle.map_answer.specs.declared.Track.{Track}
 use Rattle.map_answer.specs.declared.Code.the-variants as code
 use Rattle.map_answer.specs.declared.Value.the-variants as value
 use Rattle.map_newer.specs.Strike.{strike, inTrack, setIn}
+use Rattle.packet_writer.specs.declared.WriteAnswer.{WriteAnswer}
+use Rattle.packet_writer.specs.declared.WriteAnswer.the-variants as write-answer
 use Rattle.map_writer.specs.Write as writer
 use Rattle.map_writer.proofs.Worked.{absent, at, material}
 use Rattle.paper_readings.specs.Table.{Reading}
@@ -47,7 +49,7 @@ byId p id n = record { Answer = Number; gives = numberFound (tracks.idOf id (map
 abbrev aspect : List ℕ → Number → Reading
 aspect s n = byNumber s 0 0 n
 
--- by its case; where there is no record none of these readings says so
+-- by its case; where there is no record there is no case, which no reading here says
 abbrev caseIn : TrackAnswer → List Aspect
 caseIn (track-answer.Record t) = t .aspect ∷ []
 caseIn (track-answer.Refused r) = []
@@ -79,9 +81,16 @@ lent s ns =
       says = ns;
     }
 
--- a map of a lent text and one track's words, written, and its first record read
+-- what the map writer says of a lent text and one track's words, in a buffer of 200 bytes; and the first record of the packet that it puts there
+abbrev writes : List ℕ → List ℕ → ℕ → Reading
+writes text ts n = record { Answer = WriteAnswer; gives = writer.mapAnswer (replicate 200 7) 0 text (material 0) ts; says = write-answer.Length n }
+
 abbrev written : List ℕ → List ℕ → Number → Reading
 written text ts n = byNumber (writer.mapPacket text (material 0) ts) 0 0 n
+
+-- the bytes of a packet
+abbrev bytes : List ℕ → List ℕ → Reading
+bytes p q = record { Answer = List ℕ; gives = p; says = q }
 
 -- a 4D by its bytes 0 and 3, with its other bytes 00, and with them FF
 abbrev binary : ℕ → ℕ → List ℕ
@@ -135,9 +144,13 @@ unknownItem = record { tag = 0x7E; value = 0x55 ∷ [] }
 abbrev reserved : List ℕ
 reserved = 0x50 ∷ 4 ∷ 0 ∷ 0 ∷ 0 ∷ 9 ∷ []
 
--- two tracks: ID 1, type 13, 4x3; ID 2, type 15, 16x9
+-- two tracks: ID 1, type 13, 16x9; ID 2, type 15, 4x3
 abbrev two : List ℕ
-two = tracked (track 0x8D 0xC1 (binary 0 0x40) ++ track 0x8F 0xC2 (binary 1 0x40))
+two = tracked (track 0x8D 0xC1 (binary 0x10 0x40) ++ track 0x8F 0xC2 (binary 0 0x40))
+
+-- two tracks: ID 1, type 11, a text that says 16x9 and lacks its last 0A; ID 2, type 12, one that reads and says nothing
+abbrev beside : List ℕ
+beside = tracked (track 0x8B 0xC1 (text (parameters ++ take 4 (ar 0x31))) ++ track 0x8C 0xC2 (text parameters))
 
 unfoldable pub aspects : List Reading
 aspects =
@@ -156,7 +169,7 @@ aspects =
     ∷ aspect (with 0x8D (name ++ others 0xEF 0x7F)) (is 0)
     ∷ aspect (with 0x8D (name ++ others 0xFF 0x7F)) (is 1)
     ∷ aspect (with 0x8D (name ++ others 0xFF 0x3F)) none
-    -- type 14: DVCAM is bit 0, and no aspect
+    -- type 14: bit 0, which DVCAM sets, is no aspect
     ∷ aspect (with 0x8E (name ++ binary 0x01 0x40)) (is 0)
     ∷ aspect (with 0x8E (name ++ binary 0x11 0x40)) (is 1)
     ∷ aspect (with 0x8E (name ++ binary 0x11 0x00)) none
@@ -179,7 +192,7 @@ aspects =
     ∷ aspect (with 0x90 (name ++ binary 0x01 0xC0)) none
     ∷ aspect (with 0x90 (name ++ others 0xFE 0x7F)) (is 0)
     ∷ aspect (with 0x90 (name ++ others 0xFF 0x7F)) (is 1)
-    -- type 25, DV-based 100 Mb/s, has a validity and no aspect; type 26 neither, though bit 4 is set in what it writes (Table 11)
+    -- type 25, DV-based 100 Mb/s, has a validity and no aspect; type 26 has neither, and bit 4, which its writers set (Table 11), is no aspect
     ∷ aspect (with 0x99 (name ++ binary 0x11 0x40)) none
     ∷ aspect (with 0x99 (name ++ binary 0x11 0x00)) none
     ∷ aspect (with 0x99 (name ++ binary 0x11 0x80)) none
@@ -282,18 +295,30 @@ aspects =
     ∷ aspect (with 0x8B (null ++ text (parameters ++ ar 0x31 ++ ar 0x31))) none
     ∷ aspect (with 0x8B (null ++ text (drop 6 parameters ++ ar 0x31))) none
     ∷ aspect (with 0x8B (null ++ text [])) none
-    -- each track by its own items, by its number and by its ID, at 60 of the lent bytes too; and in three lent records, of which the last stays
-    ∷ byNumber (replicate 60 7 ++ two) 60 0 (is 0)
-    ∷ byNumber (replicate 60 7 ++ two) 60 1 (is 1)
-    ∷ byId two 1 (is 0)
-    ∷ byId two 2 (is 1)
-    ∷ lent two (is 0 ∷ is 1 ∷ is 1 ∷ [])
-    -- struck of an unknown item and a reserved rate, and with an unknown item set in before the 4D or the 4F
+    -- each track by its own items: by its number, at 60 of the lent bytes, by its ID, and in three lent records, of which the last stays
+    ∷ byNumber (replicate 60 7 ++ two) 60 0 (is 1)
+    ∷ byNumber (replicate 60 7 ++ two) 60 1 (is 0)
+    ∷ byId two 1 (is 1)
+    ∷ byId two 2 (is 0)
+    ∷ lent two (is 1 ∷ is 0 ∷ is 1 ∷ [])
+    -- a text that does not read takes nothing from the track behind it
+    ∷ byNumber beside 0 0 none
+    ∷ byNumber beside 0 1 (is 0)
+    ∷ byId beside 1 none
+    ∷ byId beside 2 (is 0)
+    ∷ lent beside (none ∷ is 0 ∷ is 1 ∷ [])
+    -- struck of an unknown item and a reserved rate, and with an unknown item set in before the 4D or the 4F; the first and the third also by their bytes
+    ∷ bytes (strike (with 0x8D (name ++ unknown ++ reserved ++ binary 0x10 0x40))) (with 0x8D (name ++ binary 0x10 0x40))
+    ∷ bytes (setIn (inTrack 0 1) unknownItem (with 0x8F (name ++ binary 0x01 0x40))) (with 0x8F (name ++ unknown ++ binary 0x01 0x40))
     ∷ byNumber (strike (with 0x8D (name ++ unknown ++ reserved ++ binary 0x10 0x40))) 0 0 (is 1)
     ∷ byNumber (strike (with 0x8B (name ++ unknown ++ text (parameters ++ ar 0x31)))) 0 0 (is 1)
     ∷ byNumber (setIn (inTrack 0 1) unknownItem (with 0x8F (name ++ binary 0x01 0x40))) 0 0 (is 1)
     ∷ byNumber (setIn (inTrack 0 1) unknownItem (with 0x8B (name ++ text parameters))) 0 0 (is 0)
-    -- written and read back: of type 13, and of type 11 with a text that reads and with one that does not
+    -- written, and what is then read: of type 13, and of type 11 with a text that reads and with one that does not
+    ∷ writes (0x10 ∷ 0 ∷ 0 ∷ 0x40 ∷ replicate 4 0) (formed 13 1 (at 0 8) absent) 44
+    ∷ writes (parameters ++ ar 0x31) (formed 11 1 absent (at 0 77)) 112
+    ∷ writes (parameters ++ ar 0x31) (formed 11 1 absent (at 0 76)) 112
+    ∷ written (replicate 3 0 ++ (0x40 ∷ replicate 4 0)) (formed 16 1 (at 0 8) absent) (is 0)
     ∷ written (0x10 ∷ 0 ∷ 0 ∷ 0x40 ∷ replicate 4 0) (formed 13 1 (at 0 8) absent) (is 1)
     ∷ written (parameters ++ ar 0x31) (formed 11 1 absent (at 0 77)) (is 1)
     ∷ written (parameters ++ ar 0x31) (formed 11 1 absent (at 0 76)) none

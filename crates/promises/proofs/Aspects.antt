@@ -14,6 +14,7 @@ use Rattle.map_aspect.specs.declared.Aspect.{Aspect}
 use Rattle.map_aspect.specs.declared.Aspect.the-variants.{Unknown}
 use Rattle.map_aspect.proofs.Meaning.{by-text, aspect-says, none-shown}
 use Rattle.map_answer.specs.declared.Track.{Track}
+use Rattle.map_tracks.specs.declared.Kth.{Kth}
 use Rattle.map_tracks.specs.declared.Kth.the-variants as kth
 use Rattle.map_tracks.proofs.AnyText.{any-text}
 use Rattle.map.specs.Map.{trackAt}
@@ -27,7 +28,8 @@ use Rattle.map_records.proofs.Kept.{kth-any}
 use Rattle.map_newer.specs.Demand.{Accepted, Alike}
 use Rattle.map_newer.specs.Functions as newer
 use Rattle.map_newer.specs.Functions.{TrackOutcomeView, IdOutcomeView}
-use Rattle.map_newer.proofs.Functions.{answers, id-gives}
+use Rattle.map_newer.proofs.Parts.{accepted-verdict}
+use Rattle.map_newer.proofs.Functions.{answers, id-gives, track-numbered}
 use Rattle.map_writer.specs.ViewGiven.{viewGiven}
 use Rattle.map_writer.specs.Readers.{KthIs}
 use Rattle.paper_readings.specs.Calls.{Parameters}
@@ -81,6 +83,10 @@ module _ (m n : List ℕ) (h : Accepted m) (i : Accepted n) (same : Alike m n) w
       sym (each-seen m (take (viewIn m .count) zs)) ∙ ap aspectsShown (answers m h .fill ys zs r f k .first) ∙ ap (λ (v : MapView). aspectsShown (v .tracks)) same
       ∙ sym (sym (each-seen n (take (viewIn n .count) vs)) ∙ ap aspectsShown (answers n i .fill us vs q g l .first))
 
+-- by number and by ID
+one : (m : List ℕ) → Accepted m → (k : ℕ) (t : Track) → newer.TrackGives m k (track-answer.Record t) → (y : Kth) → newer.IdGives m (t .id) y → y ≡ kth.Record t
+one m h k t g y i = id-gives m (t .id) y i ∙ record-aspects.aspects .id-of m (accepted-verdict m h) k t (track-numbered m h k t g)
+
 -- a text that reads or does not
 by-reader : (mediaType : ℕ) (aux text : List ℕ) → Mpeg mediaType → (x : MpegAnswer) → Parameters text x → aspectOf mediaType aux text ≡ byAnswer x
 unfolding textAspect
@@ -97,7 +103,8 @@ aspects =
       records = record-aspects.aspects;
       track = λ s at k w q t g. of-position s at k w t q (sym (track-is s at k _ g));
       by-id = λ p id t g. let r = record-aspects.aspects .by-id p id t (sym (id-gives p id (kth.Record t) g)) in record-aspects.aspects .by-number p (r .0) t (r .1);
-      fill = λ ys zs s at m f k h y. let e = kth-any ys s at m zs f k h y in (e, λ w q. of-position s at k w _ q e);
+      fill = λ ys zs s at m f k h y. let e = kth-any ys s at m zs f k h y in (λ x g. track-is s at k x g ∙ e, λ w q. of-position s at k w _ q e);
+      one-record = one;
       alike-track = by-track;
       alike-id = by-id;
       alike-fill = lent;

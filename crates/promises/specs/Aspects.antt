@@ -13,9 +13,10 @@ use Rattle.map_aspect.specs.Aspect.{byAnswer, aspectOf}
 use Rattle.map_aspect.specs.Meaning.{Mpeg, AspectSays, NoneShown}
 use Rattle.map_aspect.specs.declared.Aspect.{Aspect}
 use Rattle.map_answer.specs.declared.Track.{Track}
+use Rattle.map_items.specs.Items.{Item}
 use Rattle.map_tracks.specs.AnyText.{AnyText}
+use Rattle.map_tracks.specs.declared.Kth.{Kth}
 use Rattle.map_tracks.specs.declared.Kth.the-variants as kth
-use Rattle.map.specs.Map.{trackAt}
 use Rattle.map.specs.View.{TrackView, viewIn}
 use Rattle.map.specs.Aspect.{AspectIn, RecordAspects}
 use Rattle.map.specs.declared.MapSays.{MapSays}
@@ -46,19 +47,21 @@ pub record Aspects : Type 0 where
   pub none-shown : NoneShown
   -- of MPEG video it is by whatever `mpeg::read` gives of the text
   pub reader : (mediaType : ℕ) (aux text : List ℕ) → Mpeg mediaType → (x : MpegAnswer) → Parameters text x → aspectOf mediaType aux text ≡ byAnswer x
-  -- what a 4F says brings no refusal: a track of MPEG video that passes does so with any other text in it
-  pub any-text : AnyText
-  -- the readings of the request, of whole maps
+  -- what a 4F says brings no refusal of its track: with another text as long the verdict on the track is the same, and a track of MPEG video that passes does so with any other text
+  pub any-text : (typeByte p : ℕ) (before after : List Item) (v w : List ℕ) → AnyText typeByte p before after v w
+  -- the readings of the request, computed
   pub read-so : Agree aspects
   -- a record's aspect is by its own type and the bytes that it points at, and under a null name unknown; by number, by ID and at a position it is one record
   pub records : RecordAspects
-  -- so it is in what `track` gives, in what `id_of` gives, and in lent records, the k-th of which is what `track` gives for k
+  -- so it is in what `track` gives, in what `id_of` gives, and in lent records
   pub track : (s : List ℕ) (at k : ℕ) (w : Packet) → packetAt s at typeMap ≡ packet-answer.Whole w → (t : Track) → ReadsTrack s at k (track-answer.Record t) → AspectIn (part at (at + w .len) s) t
   pub by-id : (p : List ℕ) (id : ℕ) (t : Track) → newer.IdGives p id (kth.Record t) → AspectIn p t
   pub fill : (ys zs : List Track) (s : List ℕ) (at : ℕ) (m : MapSays) → Filled ys s at (map-answer.Says m) zs → (k : ℕ) → k < m .count → (y : Track)
-      → (trackAt s at k ≡ track-answer.Record (getD zs k y))
+      → ((x : TrackAnswer) → ReadsTrack s at k x → x ≡ track-answer.Record (getD zs k y))
       × ((w : Packet) → packetAt s at typeMap ≡ packet-answer.Whole w → AspectIn (part at (at + w .len) s) (getD zs k y))
-  -- demand 3: of two accepted maps that answer alike the functions give equal aspects, by number, by ID and lent. Which maps do is `NewerMaps`': a map and what striking leaves of it, and a map with an unknown item set in
+  -- on a map that is accepted the functions give one record: the k-th of lent ones is what `track` gives for k (`fill`), and what `track` gives is what `id_of` gives for its ID
+  pub one-record : (m : List ℕ) → Accepted m → (k : ℕ) (t : Track) → newer.TrackGives m k (track-answer.Record t) → (y : Kth) → newer.IdGives m (t .id) y → y ≡ kth.Record t
+  -- demand 3: of two accepted maps that answer alike the records that the functions give have equal aspects, by number, by ID and lent. Which maps do is `NewerMaps`': a map and what striking leaves of it, and a map with an unknown item set in
   pub alike-track : (m n : List ℕ) → Accepted m → Accepted n → Alike m n → (k : ℕ) (t u : Track) → newer.TrackGives m k (track-answer.Record t) → newer.TrackGives n k (track-answer.Record u) → t .aspect ≡ u .aspect
   pub alike-id : (m n : List ℕ) → Accepted m → Accepted n → Alike m n → (id : ℕ) (t u : Track) → newer.IdGives m id (kth.Record t) → newer.IdGives n id (kth.Record u) → t .aspect ≡ u .aspect
   pub alike-fill : (m n : List ℕ) → Accepted m → Accepted n → Alike m n → (ys zs us vs : List Track) (r q : MapAnswer) → newer.FillGives m ys r zs → newer.FillGives n us q vs

@@ -1,4 +1,4 @@
-// Maps that were made outside, each followed by its twin, which lacks what the reader doesn't know: whether the two answer alike, places aside.
+// Maps that were made outside, each followed by its twin, which lacks what the reader doesn't know: whether the two answer alike, places aside, and the aspects of their tracks.
 // The last pairs are no twins and must not.
 use console::say;
 use map::MapAnswer;
