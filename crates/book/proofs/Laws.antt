@@ -14,7 +14,8 @@ use Rattle.plate.proofs.Tests.{no-choice}
 use Rattle.number.specs.Number.{le}
 use Rattle.number.proofs.Laws.{Bytes, le-four}
 use Rattle.media_type.specs.MediaType.{knownType}
-use Rattle.book.specs.Book.{Book, onSlot, Slot, broken, holds, recordAt, bookFrom, bookOf, risesAt, stands, judgeBook, Verdict, bad, good, isOf, firstIn, orNotThere, Offset, nothing, there, ifGood, lookupOf}
+use Rattle.field.specs.Field.{hasMark, isEven}
+use Rattle.book.specs.Book.{Book, onSlot, Slot, broken, holds, saidAt, recordAt, bookFrom, bookOf, soundType, risesAt, stands, judgeBook, Verdict, bad, good, isOf, firstIn, orNotThere, Offset, nothing, there, ifGood, lookupOf}
 use Rattle.book.specs.Inside.{bookAt, soundHead, verdictFrom}
 use Rattle.book.specs.declared.Entry.{Entry}
 use Rattle.book.specs.declared.LookupAnswer.{LookupAnswer}
@@ -73,30 +74,49 @@ module _ (n last : ℕ) (e : Entry) where
   kept false false r h = absurd (let z : _≡_ {A = ℕ} 0 1 = cc in omega arith)
   kept false true false h = absurd (let z : _≡_ {A = ℕ} 0 1 = cc in omega arith)
 
--- the entry that the bytes at a place say
-abbrev said : List ℕ → ℕ → Entry
-said s at = record { track = getD s (at + 2) 0; «media_type» = getD s (at + 3) 0; field = le s (at + 4) 4; at = le s (at + 8) 8 }
+-- the type byte of a first word
+word-type : (s : List ℕ) → Bytes s → (at : ℕ) → le s at 4 / 0x1000000 ≡ getD s (at + 3) 0
+word-type s g at = let w = le-four s at _ _ _ _ refl refl refl refl in omega (arith, w, g at, g (at + 1), g (at + 2), g (at + 3))
 
--- by its first word and its offset: whether a record that is there may stand as record n
+-- beside a good first word the type byte is good
+pub type-sound : (s : List ℕ) → Bytes s → (at number : ℕ) → soundHead (le s at 4) number ≡ true → soundType (getD s (at + 3) 0) number ≡ true
+unfolding soundHead
+type-sound s g at number h =
+    go (eqb (le s at 4 % 0x10000) 0x5847) (ltb 63 (le s at 4 / 0x10000 % 0x100)) (rw (word-type s g at) at h)
+  where
+    go : (p q : Bool) → pick p (pick q false (soundType (getD s (at + 3) 0) number)) false ≡ true → soundType (getD s (at + 3) 0) number ≡ true
+    go true true e = absurd (let z : _≡_ {A = ℕ} 0 1 = cc in omega arith)
+    go true false e = e
+    go false q e = absurd (let z : _≡_ {A = ℕ} 0 1 = cc in omega arith)
+
+-- with the mark its number is even
+pub marked-even : (byte number : ℕ) → soundType byte number ≡ true → hasMark byte ≡ true → isEven number ≡ true
+unfolding soundType
+marked-even byte number h m = go (knownType (byte - 64)) (rw m at h)
+  where
+    go : (k : Bool) → pick k (isEven number) false ≡ true → isEven number ≡ true
+    go true e = e
+    go false e = absurd (let z : _≡_ {A = ℕ} 0 1 = cc in omega arith)
+
+-- by its first word, its number and its offset: whether a record that is there may stand as record n
 pub seen : (s : List ℕ) → Bytes s → (at n last : ℕ) → at + 16 ≤ length s
-    → standing n last (recordAt s at) ≡ pick (soundHead (le s at 4)) (risesAt n last (le s (at + 8) 8)) false
+    → standing n last (recordAt s at) ≡ pick (soundHead (le s at 4) (le s (at + 4) 4)) (risesAt n last (le s (at + 8) 8)) false
 unfolding recordAt soundHead stands
 seen s g at n last room =
     let w = le-four s at _ _ _ _ refl refl refl refl in
     let a : le s at 4 % 0x10000 ≡ getD s at 0 + getD s (at + 1) 0 * 0x100 = omega (arith, w, g at, g (at + 1), g (at + 2), g (at + 3)) in
     let b : le s at 4 / 0x10000 ≡ getD s (at + 2) 0 + getD s (at + 3) 0 * 0x100 = omega (arith, w, g at, g (at + 1), g (at + 2), g (at + 3)) in
     let c : (getD s (at + 2) 0 + getD s (at + 3) 0 * 0x100) % 0x100 ≡ getD s (at + 2) 0 = omega (arith, g (at + 2)) in
-    let d : le s at 4 / 0x1000000 ≡ getD s (at + 3) 0 = omega (arith, w, g at, g (at + 1), g (at + 2), g (at + 3)) in
-    rw (le-ltb (length s - at) 16 (omega arith), a, b, c, d, pair (getD s at 0) (getD s (at + 1) 0) (g at .fits))
+    rw (le-ltb (length s - at) 16 (omega arith), a, b, c, word-type s g at, pair (getD s at 0) (getD s (at + 1) 0) (g at .fits))
     (shape
     (eqb (getD s at 0) 0x47)
     (eqb (getD s (at + 1) 0) 0x58)
     (ltb 63 (getD s (at + 2) 0))
-    (knownType (getD s (at + 3) 0))
+    (soundType (getD s (at + 3) 0) (le s (at + 4) 4))
     (risesAt n last (le s (at + 8) 8))
     n
     last
-    (said s at)
+    (saidAt s at)
     refl)
 
 module _ (s : List ℕ) (n last : ℕ) where
@@ -123,26 +143,26 @@ module _ (s : List ℕ) (n last : ℕ) where
     torn k = fault (rw (lt-ltb (length s - n * 16) 16 (omega arith)))
 
     module _ (f : standing n last (recordAt s (n * 16)) ≡ true) where
-      here : recordAt s (n * 16) ≡ holds (said s (n * 16))
+      here : recordAt s (n * 16) ≡ holds (saidAt s (n * 16))
       unfolding recordAt
-      here = kept n last (said s (n * 16)) (ltb (length s - n * 16) 16) (eqb (getD s (n * 16) 0) 0x47) (eqb (getD s (n * 16 + 1) 0) 0x58) f
+      here = kept n last (saidAt s (n * 16)) (ltb (length s - n * 16) 16) (eqb (getD s (n * 16) 0) 0x47) (eqb (getD s (n * 16 + 1) 0) 0x58) f
 
       pub next : verdictFrom s n last ≡ verdictFrom s (n + 1) (le s (n * 16 + 8) 8)
       unfolding judgeBook
-      next = let q : stands n last (said s (n * 16)) ≡ true = rw here at f in rw (turn s n h, here, q)
+      next = let q : stands n last (saidAt s (n * 16)) ≡ true = rw here at f in rw (turn s n h, here, q)
 
       pub first : (track field : ℕ) → firstIn track field (bookAt s n .list)
-          ≡ pick (isOf track field (said s (n * 16))) (there (le s (n * 16 + 8) 8)) (firstIn track field (bookAt s (n + 1) .list))
+          ≡ pick (isOf track field (saidAt s (n * 16))) (there (le s (n * 16 + 8) 8)) (firstIn track field (bookAt s (n + 1) .list))
       unfolding firstIn
       first track field = rw (turn s n h, here)
 
 -- a turn at a record that is there
 module _ (s : List ℕ) (g : Bytes s) (n last : ℕ) (room : n * 16 + 16 ≤ length s) where
-  pub is-bad : (a : LookupAnswer) → pick (soundHead (le s (n * 16) 4)) (risesAt n last (le s (n * 16 + 8) 8)) false ≡ false
+  pub is-bad : (a : LookupAnswer) → pick (soundHead (le s (n * 16) 4) (le s (n * 16 + 4) 4)) (risesAt n last (le s (n * 16 + 8) 8)) false ≡ false
       → lookup.Refused (refusal 23 n) ≡ ifGood (verdictFrom s n last) a
   is-bad a q = rw (fault s n last (omega arith) (seen s g (n * 16) n last room ∙ q))
 
-  pub may-stand : soundHead (le s (n * 16) 4) ≡ true → risesAt n last (le s (n * 16 + 8) 8) ≡ true → standing n last (recordAt s (n * 16)) ≡ true
+  pub may-stand : soundHead (le s (n * 16) 4) (le s (n * 16 + 4) 4) ≡ true → risesAt n last (le s (n * 16 + 8) 8) ≡ true → standing n last (recordAt s (n * 16)) ≡ true
   may-stand p q = seen s g (n * 16) n last room ∙ rw (p, q)
 
 -- what is left to do from record n on, with none found yet
@@ -163,15 +183,9 @@ on-end s n last a b e f = go (eqb (length s % 16) 0) refl
     go false q = let z = eqb-false (length s % 16) 0 q in rw (torn s n last (omega arith) (omega arith))
 
 module _ (s : List ℕ) (track field n last : ℕ) (room : n * 16 + 16 ≤ length s) (f : standing n last (recordAt s (n * 16)) ≡ true) where
-  on-next : isOf track field (said s (n * 16)) ≡ false → answerFrom s track field n last ≡ answerFrom s track field (n + 1) (le s (n * 16 + 8) 8)
+  pub on-next : isOf track field (saidAt s (n * 16)) ≡ false → answerFrom s track field n last ≡ answerFrom s track field (n + 1) (le s (n * 16 + 8) 8)
   on-next q = rw (next s n last (omega arith) f, first s n last (omega arith) f track field, q)
 
-  pub other-field : (le s (n * 16 + 4) 4 ≡ field → ⊥) → answerFrom s track field n last ≡ answerFrom s track field (n + 1) (le s (n * 16 + 8) 8)
-  other-field h = on-next (rw (ne-eqb (le s (n * 16 + 4) 4) field h) (no-choice (eqb (getD s (n * 16 + 2) 0) track) false))
-
-  pub other-track : (getD s (n * 16 + 2) 0 ≡ track → ⊥) → answerFrom s track field n last ≡ answerFrom s track field (n + 1) (le s (n * 16 + 8) 8)
-  other-track h = on-next (rw (ne-eqb (getD s (n * 16 + 2) 0) track h))
-
-  pub on-found : le s (n * 16 + 4) 4 ≡ field → getD s (n * 16 + 2) 0 ≡ track
+  pub on-found : isOf track field (saidAt s (n * 16)) ≡ true
       → ifGood (verdictFrom s (n + 1) (le s (n * 16 + 8) 8)) (lookup.At (le s (n * 16 + 8) 8)) ≡ answerFrom s track field n last
-  on-found p q = rw (next s n last (omega arith) f, first s n last (omega arith) f track field, eq-eqb (getD s (n * 16 + 2) 0) track q, eq-eqb (le s (n * 16 + 4) 4) field p)
+  on-found q = rw (next s n last (omega arith) f, first s n last (omega arith) f track field, q)

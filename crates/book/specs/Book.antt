@@ -9,11 +9,12 @@ use Rattle.plate.specs.Ended.{Ended, none, inFront}
 use Rattle.plate.specs.Plate.{refusal}
 use Rattle.number.specs.Number.{le, leBytes}
 use Rattle.media_type.specs.MediaType.{knownType}
+use Rattle.field.specs.Field.{hasMark, isEven, isField}
 use Rattle.book.specs.declared.Entry.{Entry}
 use Rattle.book.specs.declared.LookupAnswer.{LookupAnswer}
 use Rattle.book.specs.declared.LookupAnswer.the-variants as lookup
 
--- the encoder: mark 47 58, ID, type, field number (32), packet offset (64), least significant first; 16 bytes. It is for a field number under 2^32 and an offset under 2^64: more would be cut
+-- the encoder: mark 47 58, ID, type byte, field number (32), packet offset (64), least significant first; 16 bytes. It is for a field number under 2^32 and an offset under 2^64: more would be cut
 unfoldable pub recordBytes : Entry → List ℕ
 recordBytes e = 0x47 ∷ 0x58 ∷ e .track ∷ e .«media_type» ∷ (leBytes 4 (e .field) ++ leBytes 8 (e .at))
 
@@ -26,13 +27,17 @@ pub data Slot : Type 0 where
   broken : Slot
   holds : Entry → Slot
 
+-- what 16 bytes at a place say
+abbrev pub saidAt : List ℕ → ℕ → Entry
+saidAt s at = record { track = getD s (at + 2) 0; «media_type» = getD s (at + 3) 0; field = le s (at + 4) 4; at = le s (at + 8) 8 }
+
 -- the decoder: what stands at a place, a record where 16 bytes with the marks are there; a short tail and a wrong mark are both no record
 unfoldable pub recordAt : List ℕ → ℕ → Slot
 recordAt s at =
     pick (ltb (length s - at) 16) broken
     (pick (eqb (getD s at 0) 0x47)
     (pick (eqb (getD s (at + 1) 0) 0x58)
-    (holds (record { track = getD s (at + 2) 0; «media_type» = getD s (at + 3) 0; field = le s (at + 4) 4; at = le s (at + 8) 8 }))
+    (holds (saidAt s at))
     broken)
     broken)
 
@@ -56,9 +61,13 @@ bookOf s = bookFrom s (suc (length s)) 0
 unfoldable pub risesAt : ℕ → ℕ → ℕ → Bool
 risesAt n last offset = pick (eqb n 0) true (ltb last offset)
 
--- a record may stand as record n: an ID up to 63, a known type, an offset that rises
+-- a type byte is good beside a number: a known type; or one with the mark, 64, and then the number is even (02, §2)
+unfoldable pub soundType : ℕ → ℕ → Bool
+soundType byte number = pick (hasMark byte) (pick (knownType (byte - 64)) (isEven number) false) (knownType byte)
+
+-- a record may stand as record n: an ID up to 63, a good type byte, an offset that rises
 unfoldable pub stands : ℕ → ℕ → Entry → Bool
-stands n last e = pick (ltb 63 (e .track)) false (pick (knownType (e .«media_type»)) (risesAt n last (e .at)) false)
+stands n last e = pick (ltb 63 (e .track)) false (pick (soundType (e .«media_type») (e .field)) (risesAt n last (e .at)) false)
 
 -- a book is good, or bad, with the number of its lowest bad record
 pub data Verdict : Type 0 where
@@ -70,9 +79,9 @@ unfoldable pub judgeBook : ℕ → ℕ → List Entry → Bool → Verdict
 judgeBook n last [] whole = pick whole good (bad n)
 judgeBook n last (e ∷ es) whole = pick (stands n last e) (judgeBook (n + 1) (e .at) es whole) (bad n)
 
--- of a track and a field; that the type is known is what makes a record good
-abbrev pub isOf : ℕ → ℕ → Entry → Bool
-isOf track field e = pick (eqb (e .track) track) (eqb (e .field) field) false
+-- of a track and a field: its own number or, with the mark, the number above; that the type is known is what makes a record good
+unfoldable pub isOf : ℕ → ℕ → Entry → Bool
+isOf track field e = pick (eqb (e .track) track) (isField (hasMark (e .«media_type»)) (e .field) field) false
 
 -- an offset, if there is one
 pub data Offset : Type 0 where

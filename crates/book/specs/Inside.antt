@@ -5,12 +5,11 @@ use mathlib.Core.List.{List}
 use lib.ListN.{length}
 use lib.Dec.{eqb, ltb}
 use Rattle.plate.specs.Choice.{pick}
-use Rattle.media_type.specs.MediaType.{knownType}
-use Rattle.book.specs.Book.{Book, bookFrom, Verdict, judgeBook}
+use Rattle.book.specs.Book.{Book, bookFrom, soundType, Verdict, judgeBook}
 
--- for the code alone: the first four bytes of a record, as one word, least significant first, are the marks, an ID up to 63 and a known type
-unfoldable pub soundHead : ℕ → Bool
-soundHead h = pick (eqb (h % 0x10000) 0x5847) (pick (ltb 63 (h / 0x10000 % 0x100)) false (knownType (h / 0x1000000))) false
+-- for the code alone: the first four bytes of a record, as one word, least significant first, are the marks, an ID up to 63 and a type byte that is good beside its number
+unfoldable pub soundHead : ℕ → ℕ → Bool
+soundHead h number = pick (eqb (h % 0x10000) 0x5847) (pick (ltb 63 (h / 0x10000 % 0x100)) false (soundType (h / 0x1000000) number)) false
 
 -- and a book from record n on, where 16 times n is no more than its length
 abbrev pub bookAt : List ℕ → ℕ → Book

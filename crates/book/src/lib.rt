@@ -2,15 +2,16 @@
 use plate::Refusal;
 ghost use mathlib.Core.Path.{_≡_};
 ghost use Prim.Native.Nat.{_+_, _*_, _%_, _<_, _≤_, _^_};
-ghost use lib.ListN.{length};
+ghost use mathlib.Core.Bool.{true};
+ghost use lib.ListN.{length, getD};
 ghost use lib.Dec.{eqb};
 ghost use Rattle.plate.specs.Choice.{pick};
 ghost use Rattle.plate.specs.Plate.{refusal};
 ghost use Rattle.number.specs.Number.{le};
-ghost use Rattle.book.specs.Book.{risesAt, ifGood, lookupOf};
+ghost use Rattle.book.specs.Book.{saidAt, soundType, risesAt, isOf, ifGood, lookupOf};
 ghost use Rattle.book.specs.Inside.{soundHead, verdictFrom};
 
-// What a record says: a track ID, a media type, a field number and the offset of the packet that carries it.
+// What a record says: a track ID, a media type, with the mark for a packet that carries two fields, a field number and the packet's offset.
 pub struct Entry {
     pub track: u8,
     pub media_type: u8,
@@ -23,10 +24,23 @@ pub enum LookupAnswer {
     Refused(Refusal),
 }
 
-// The first four bytes of a record as one word: marks, an ID up to 63, a known type. Types 7 to 18 show on the word itself, without taking the type out.
-fn is_sound(head: usize) -> bool
+// Whether a type byte is good beside a record's number: a known type, or with the mark one beside an even number.
+fn is_type(type_byte: u8, number: u64) -> bool
+    ensures { λ r. ⌜ r ≡ soundType «type_byte» number ⌝ }
+{
+    if field::has_mark(type_byte) {
+        if media_type::is_known(type_byte - field::MARK) {
+            return field::is_even(number);
+        }
+        return false;
+    }
+    media_type::is_known(type_byte)
+}
+
+// The first four bytes of a record as one word: marks, an ID up to 63, a good type byte. Types 7 to 18 show on the word itself, without taking the type out.
+fn is_sound(head: usize, number: u64) -> bool
     requires { ⌜ head < 2 ^ 32 ⌝ }
-    ensures { λ r. ⌜ r ≡ soundHead head ⌝ }
+    ensures { λ r. ⌜ r ≡ soundHead head number ⌝ }
 {
     if head % 0x10000 != 0x5847 {
         return false;
@@ -39,7 +53,7 @@ fn is_sound(head: usize) -> bool
             return true;
         }
     }
-    media_type::is_known((head / 0x1000000) as u8)
+    is_type((head / 0x1000000) as u8, number)
 }
 
 // Whether the offset of record n may follow the last.
@@ -66,6 +80,20 @@ fn offset_at(book: &[u8], at: usize) -> usize
     number::le8(book, at + 8)
 }
 
+// Whether a good record of a number is of a track and a field. Most have another number: halves are tested first, as the number above an even one has its half.
+fn is_wanted(book: &[u8], at: usize, here: u64, track: u64, field: u64) -> bool
+    requires { ⌜ (at + 16 ≤ length (now book)) × (here ≡ le (now book) (at + 4) 4) × (soundType (getD (now book) (at + 3) 0) here ≡ true) ⌝ }
+    ensures { λ r. ⌜ r ≡ isOf track field (saidAt (now (book .entry)) at) ⌝ }
+{
+    if here / 2 != field / 2 {
+        return false;
+    }
+    if book[at + 2] as u64 != track {
+        return false;
+    }
+    field::is_field(field::has_mark(book[at + 3]), here, field)
+}
+
 // An answer, if no broken tail follows the n records.
 fn unless_torn(book: &[u8], n: usize, answer: LookupAnswer) -> LookupAnswer
     ensures { λ r. ⌜ r ≡ pick (eqb (length (now (book .entry)) % 16) 0) answer (LookupAnswer.Refused (refusal 23 n)) ⌝ }
@@ -86,8 +114,9 @@ fn rest(book: &[u8], passed: usize, before: usize, answer: usize) -> LookupAnswe
     let mut last = before;
     while n < records {
         let at = n * 16;
+        let here = number::le4(book, at + 4) as u64;
         let offset = offset_at(book, at);
-        if !is_sound(number::le4(book, at)) {
+        if !is_sound(number::le4(book, at), here) {
             return bad_book(n);
         }
         if !rises(n, last, offset) {
@@ -109,19 +138,17 @@ pub fn lookup(book: &[u8], track: u64, field: u64) -> LookupAnswer
     let mut last: usize = 0;
     while n < records {
         let at = n * 16;
-        let here = number::le4(book, at + 4);
+        let here = number::le4(book, at + 4) as u64;
         let offset = offset_at(book, at);
-        if !is_sound(number::le4(book, at)) {
+        if !is_sound(number::le4(book, at), here) {
             return bad_book(n);
         }
         if !rises(n, last, offset) {
             return bad_book(n);
         }
         n += 1;
-        if here as u64 == field {
-            if book[at + 2] as u64 == track {
-                return rest(book, n, offset, offset);
-            }
+        if is_wanted(book, at, here, track, field) {
+            return rest(book, n, offset, offset);
         }
         last = offset;
     }

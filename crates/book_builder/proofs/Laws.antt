@@ -25,7 +25,7 @@ use Rattle.order.specs.Order.{started, misplaced, overdue, unmapped, progressAf
 use Rattle.order.specs.declared.Progress.{Progress}
 use Rattle.order.specs.declared.Step.{Step}
 use Rattle.order.specs.declared.Step.the-variants as step
-use Rattle.stream.specs.Stream.{Placed, Packets, closed, typesAfter, onPiece, packetsFrom, packets, onStep, stepAt, judgePackets, checkOf}
+use Rattle.stream.specs.Stream.{Placed, Packets, closed, typesAfter, onPiece, packetsFrom, packets, onStep, typeFor, stepAt, judgePackets, checkOf}
 use Rattle.stream.proofs.Laws.{turn, out}
 use Rattle.stream.specs.declared.CheckAnswer.the-variants as check
 use Rattle.book.specs.Book.{recordBytes, bookBytes}
@@ -70,41 +70,39 @@ passing-next s x ps p h = go (stepAt (length s) (p .progress) x) refl (p .judged
     go : (t : Step) → stepAt (length s) (p .progress) x ≡ t → onStep (λ q. judgePackets (length s) q (ps .list) (ps .end)) t ≡ check.Packets (p .packets) → Passing s ps
     go (step.Next q) e j = record { progress = q; packets = p .packets; judged = j }
     go (step.Refused r) e j = absurd (let z : _≡_ {A = ℕ} 0 1 = cc in omega arith)
-    go (step.Ended n) e j = absurd (no-end (p .progress) (x .piece) (x .at) (getD (x .types) (x .piece .track) 0) n (rw (lt-ltb (x .at + x .piece .len) (length s) h) at e))
+    go (step.Ended n) e j = absurd (no-end (p .progress) (x .piece) (x .at) (typeFor (x .types) (x .piece .track)) n (rw (lt-ltb (x .at + x .piece .len) (length s) h) at e))
 
 closed-fails : (s : List ℕ) → Passing s (none closed) → ⊥
 unfolding judgePackets
 closed-fails s p = let j = p .judged in let z : _≡_ {A = ℕ} 0 1 = cc in absurd (omega arith)
 
--- the entries done, and what is left to do from an offset on
-pub record Left (s : List ℕ) (at : ℕ) (done : List Entry) : Type 0 where
+-- the entries done, and what is left to do from an offset on, with the latest map's type bytes
+pub record Left (s : List ℕ) (at : ℕ) (types : List ℕ) (done : List Entry) : Type 0 where
   pub first : Bool
   pub fuel : ℕ
-  pub types : List ℕ
   pub enough : length s - at < fuel
   pub same : entriesIn s ≡ done ++ entriesOf (packetsFrom s fuel first types at .list)
   pub passes : at < length s → Passing s (packetsFrom s fuel first types at)
 
-begin : (s : List ℕ) → Accepted s → Left s 0 []
+begin : (s : List ℕ) → Accepted s → Left s 0 (replicate 64 0) []
 unfolding entriesIn packets checkOf
 begin s a =
     record {
       first = true;
       fuel = suc (length s);
-      types = replicate 64 0;
       enough = omega arith;
       same = refl;
       passes = λ _. record { progress = started; packets = a .count; judged = a .passes };
     }
 
-module _ (s : List ℕ) (at : ℕ) (done : List Entry) (l : Left s at done) where
+module _ (s : List ℕ) (at : ℕ) (types : List ℕ) (done : List Entry) (l : Left s at types done) where
   pub all-out : length s ≤ at → entriesIn s ≡ done
   unfolding entriesOf
-  all-out h = l .same ∙ rw (out s (l .fuel) (l .first) (l .types) at h, append-nil)
+  all-out h = l .same ∙ rw (out s (l .fuel) (l .first) types at h, append-nil)
 
   module _ (h : at < length s) where
-    now-turn : packetsFrom s (l .fuel) (l .first) (l .types) at ≡ onPiece s at (l .types) (λ now-types next. packetsFrom s (l .fuel - 1) false now-types next) (pieceAt s at (l .first))
-    now-turn = turn s (l .fuel) (l .first) (l .types) at (omega (arith, l .enough)) h
+    now-turn : packetsFrom s (l .fuel) (l .first) types at ≡ onPiece s at types (λ now-types next. packetsFrom s (l .fuel - 1) false now-types next) (pieceAt s at (l .first))
+    now-turn = turn s (l .fuel) (l .first) types at (omega (arith, l .enough)) h
 
     -- the packet here, as its bytes say
     abbrev x : Piece
@@ -115,7 +113,7 @@ module _ (s : List ℕ) (at : ℕ) (done : List Entry) (l : Left s at done) wher
       where
         go : (a : PieceAnswer) → pieceAt s at (l .first) ≡ a → (pieceAt s at (l .first) ≡ piece.Whole x) × Seeable s at
         go (piece.Whole y) e = let w = seen s at (l .first) y e in (e ∙ ap piece.Whole (w .is), w .can)
-        go (piece.Refused r) e = absurd (passing-whole s at (l .types) (λ now-types next. packetsFrom s (l .fuel - 1) false now-types next) (pieceAt s at (l .first)) (rw now-turn at (l .passes h)) r e)
+        go (piece.Refused r) e = absurd (passing-whole s at types (λ now-types next. packetsFrom s (l .fuel - 1) false now-types next) (pieceAt s at (l .first)) (rw now-turn at (l .passes h)) r e)
 
     pub can-see : Seeable s at
     can-see = whole-here .1
@@ -124,21 +122,28 @@ module _ (s : List ℕ) (at : ℕ) (done : List Entry) (l : Left s at done) wher
     is-told = told s at (l .first) x (whole-here .0)
 
     abbrev rest : Packets
-    rest = pick (eqb (x .«packet_type») 0xFB) (none closed) (packetsFrom s (l .fuel - 1) false (typesAfter s at x (l .types)) (at + x .len))
+    rest = pick (eqb (x .«packet_type») 0xFB) (none closed) (packetsFrom s (l .fuel - 1) false (typesAfter s at x types) (at + x .len))
 
-    here : packetsFrom s (l .fuel) (l .first) (l .types) at ≡ inFront (record { at = at; piece = x; types = typesAfter s at x (l .types) }) rest
+    here : packetsFrom s (l .fuel) (l .first) types at ≡ inFront (record { at = at; piece = x; types = typesAfter s at x types }) rest
     here = now-turn ∙ rw (whole-here .0)
 
-    turned : entriesIn s ≡ done ++ entriesHere at x ++ entriesOf (rest .list)
+    -- the type bytes behind it, and its entries
+    abbrev now-types : List ℕ
+    now-types = typesAfter s at x types
+
+    abbrev entries : List Entry
+    entries = entriesHere at (getD now-types (x .track) 0) x
+
+    turned : entriesIn s ≡ done ++ entries ++ entriesOf (rest .list)
     unfolding entriesOf
     turned = l .same ∙ rw (here, append-assoc)
 
     -- the entries of a packet that has passed are among all
-    pub among : length (done ++ entriesHere at x) ≤ length (entriesIn s)
-    among = rw turned (omega (arith, length-append (done ++ entriesHere at x) (entriesOf (rest .list))))
+    pub among : length (done ++ entries) ≤ length (entriesIn s)
+    among = rw turned (omega (arith, length-append (done ++ entries) (entriesOf (rest .list))))
 
     rest-passes : at + x .len < length s → Passing s rest
-    rest-passes k = passing-next s (record { at = at; piece = x; types = typesAfter s at x (l .types) }) rest (rw here at (l .passes h)) k
+    rest-passes k = passing-next s (record { at = at; piece = x; types = typesAfter s at x types }) rest (rw here at (l .passes h)) k
 
     -- EOS is the last packet, and its end the stream's
     last : eqb (x .«packet_type») 0xFB ≡ true → length s ≤ at + x .len
@@ -148,68 +153,76 @@ module _ (s : List ℕ) (at : ℕ) (done : List Entry) (l : Left s at done) wher
         go true q = absurd (closed-fails s (rw e at (rest-passes (ltb-true (at + x .len) (length s) q))))
         go false q = ltb-false (at + x .len) (length s) q
 
-    pub next : Left s (at + x .len) (done ++ entriesHere at x)
+    pub next : Left s (at + x .len) now-types (done ++ entries)
     next = go (eqb (x .«packet_type») 0xFB) refl
       where
-        types : List ℕ
-        types = typesAfter s at x (l .types)
-
-        go : (b : Bool) → eqb (x .«packet_type») 0xFB ≡ b → Left s (at + x .len) (done ++ entriesHere at x)
+        go : (b : Bool) → eqb (x .«packet_type») 0xFB ≡ b → Left s (at + x .len) now-types (done ++ entries)
         go true e =
             record {
               first = false;
               fuel = l .fuel - 1;
-              types = types;
               enough = omega (arith, l .enough, is-told .cut .least, is-told .cut .within);
-              same = turned ∙ rw (e, out s (l .fuel - 1) false types (at + x .len) (last e));
+              same = turned ∙ rw (e, out s (l .fuel - 1) false now-types (at + x .len) (last e));
               passes = λ k. absurd (omega (arith, last e, k));
             }
         go false e =
             record {
               first = false;
               fuel = l .fuel - 1;
-              types = types;
               enough = omega (arith, l .enough, is-told .cut .least, is-told .cut .within);
               same = turned ∙ rw e;
               passes = λ k. rw e at (rest-passes k);
             }
 
 -- a packet has one record at most
-pub one-here : (at : ℕ) (x : Piece) → length (entriesHere at x) ≤ 1
-unfolding entriesHere
-one-here at x = go (recorded x)
+pub one-here : (x : Piece) → pick (recorded x) 1 0 ≤ 1
+one-here x = go (recorded x)
   where
-    go : (b : Bool) → length (pick b (entryOf at x ∷ []) []) ≤ 1
+    go : (b : Bool) → pick b 1 0 ≤ 1
     go true = omega arith
     go false = omega arith
 
-pub here-one : (at : ℕ) (x : Piece) → recorded x ≡ true → entriesHere at x ≡ entryOf at x ∷ []
-unfolding entriesHere
-here-one at x e = rw e
+module _ (at byte : ℕ) (x : Piece) where
+  -- whatever its type byte
+  pub many-here : length (entriesHere at byte x) ≡ pick (recorded x) 1 0
+  unfolding entriesHere
+  many-here = go (recorded x)
+    where
+      go : (b : Bool) → length (pick b (entryOf at byte x ∷ []) []) ≡ pick b 1 0
+      go true = refl
+      go false = refl
 
-pub here-none : (at : ℕ) (x : Piece) → recorded x ≡ false → entriesHere at x ≡ []
-unfolding entriesHere
-here-none at x e = rw e
+  pub here-one : recorded x ≡ true → entriesHere at byte x ≡ entryOf at byte x ∷ []
+  unfolding entriesHere
+  here-one e = rw e
+
+  pub here-none : recorded x ≡ false → entriesHere at byte x ≡ []
+  unfolding entriesHere
+  here-none e = rw e
 
 -- a count under way
 pub record Counting (s : List ℕ) (at n : ℕ) : Type 0 where
+  pub types : List ℕ
   pub done : List Entry
   pub many : n ≡ length done
-  pub left : Left s at done
+  pub left : Left s at types done
 
 pub count-begin : (s : List ℕ) → Accepted s → Counting s 0 0
-count-begin s a = record { done = []; many = refl; left = begin s a }
+count-begin s a = record { types = replicate 64 0; done = []; many = refl; left = begin s a }
 
 module _ (s : List ℕ) (at n : ℕ) (l : Counting s at n) where
   pub count-out : length s ≤ at → n ≡ length (entriesIn s)
-  count-out h = rw (all-out s at (l .done) (l .left) h) (l .many)
+  count-out h = rw (all-out s at (l .types) (l .done) (l .left) h) (l .many)
 
-  pub count-next : at < length s → (k : ℕ) → k ≡ length (entriesHere at (seenAt s at)) → Counting s (at + seenAt s at .len) (n + k)
+  pub count-next : at < length s → (k : ℕ) → k ≡ pick (recorded (seenAt s at)) 1 0 → Counting s (at + seenAt s at .len) (n + k)
   count-next h k t =
+      let now-types = typesAfter s at (seenAt s at) (l .types) in
+      let byte = getD now-types (seenAt s at .track) 0 in
       record {
-        done = l .done ++ entriesHere at (seenAt s at);
-        many = omega (arith, length-append (l .done) (entriesHere at (seenAt s at)), l .many);
-        left = next s at (l .done) (l .left) h;
+        types = now-types;
+        done = l .done ++ entriesHere at byte (seenAt s at);
+        many = omega (arith, length-append (l .done) (entriesHere at byte (seenAt s at)), many-here at byte (seenAt s at), l .many);
+        left = next s at (l .types) (l .done) (l .left) h;
       }
 
 -- a record, byte by byte
@@ -236,35 +249,38 @@ bytes-append [] b = refl
 bytes-append (x ∷ a) b = rw (bytes-append a b, append-assoc)
 
 -- a writing under way: the buffer it began with, and what the buffer holds now
-pub record Writing (s : List ℕ) (at to : ℕ) (old now-out : List ℕ) : Type 0 where
+pub record Writing (s : List ℕ) (at to : ℕ) (types old now-out : List ℕ) : Type 0 where
   pub done : List Entry
   pub place : to ≡ 16 * length done
-  pub left : Left s at done
+  pub left : Left s at types done
   pub same : now-out ≡ sets old 0 (bookBytes done)
 
-pub write-begin : (s l : List ℕ) → Accepted s → Writing s 0 0 l l
+pub write-begin : (s l : List ℕ) → Accepted s → Writing s 0 0 (replicate 64 0) l l
 unfolding bookBytes
 write-begin s l a = record { done = []; place = refl; left = begin s a; same = refl }
 
-module _ (s : List ℕ) (at to : ℕ) (old now-out : List ℕ) (l : Writing s at to old now-out) where
+module _ (s : List ℕ) (at to : ℕ) (types old now-out : List ℕ) (l : Writing s at to types old now-out) where
   pub write-out : length s ≤ at → now-out ≡ sets old 0 (bookBytes (entriesIn s))
-  write-out h = rw (all-out s at (l .done) (l .left) h) (l .same)
+  write-out h = rw (all-out s at types (l .done) (l .left) h) (l .same)
 
-  module _ (h : at < length s) where
-    abbrev entries : List Entry
-    entries = entriesHere at (seenAt s at)
+  module _ (h : at < length s) (later : List ℕ) (turn : later ≡ typesAfter s at (seenAt s at) types) where
+    abbrev written : List Entry
+    written = entriesHere at (getD later (seenAt s at .track) 0) (seenAt s at)
 
-    pub write-room : to + 16 * length entries ≤ 16 * length (entriesIn s)
-    write-room = omega (arith, among s at (l .done) (l .left) h, length-append (l .done) entries, l .place)
+    all-among : length (l .done ++ written) ≤ length (entriesIn s)
+    all-among = rw turn (among s at types (l .done) (l .left) h)
 
-    pub write-next : (new : List ℕ) → new ≡ sets now-out to (bookBytes entries) → (k : ℕ) → k ≡ to + 16 * length entries → Writing s (at + seenAt s at .len) k old new
+    pub write-room : to + 16 * length written ≤ 16 * length (entriesIn s)
+    write-room = omega (arith, all-among, length-append (l .done) written, l .place)
+
+    pub write-next : (new : List ℕ) → new ≡ sets now-out to (bookBytes written) → (k : ℕ) → k ≡ to + 16 * length written → Writing s (at + seenAt s at .len) k later old new
     write-next new q k t =
         let a : to ≡ 0 + length (bookBytes (l .done)) = omega (arith, length-bytes (l .done), l .place) in
         record {
-          done = l .done ++ entries;
-          place = omega (arith, length-append (l .done) entries, l .place);
-          left = next s at (l .done) (l .left) h;
-          same = q ∙ rw (l .same, a, sets-append (bookBytes (l .done)) old 0 (bookBytes entries), bytes-append (l .done) entries);
+          done = l .done ++ written;
+          place = omega (arith, length-append (l .done) written, l .place);
+          left = rw turn (next s at types (l .done) (l .left) h);
+          same = q ∙ rw (l .same, a, sets-append (bookBytes (l .done)) old 0 (bookBytes written), bytes-append (l .done) written);
         }
 
 -- the answer and the buffer, by the check and the room

@@ -4,7 +4,7 @@ use mathlib.Core.Path.{_≡_, refl, _∙_, ap}
 use mathlib.Core.Bool.{Bool, true, false}
 use mathlib.Core.List.{List, [], _∷_, _++_}
 use native.Mathlib.Omega.{arith}
-use lib.ListN.{length, take, drop}
+use lib.ListN.{length, getD, take, drop}
 use lib.Seq.{take-append-seam, drop-append-seam}
 use lib.Dec.{eqb, ltb}
 use borrow.Author.Tests.{le-ltb}
@@ -13,12 +13,15 @@ use Rattle.plate.specs.Plate.{refusal}
 use Rattle.plate.specs.declared.Refusal.{Refusal}
 use Rattle.number.proofs.Laws.{Bytes}
 use Rattle.media_type.specs.MediaType.{knownType}
-use Rattle.stream.specs.Stream.{Placed, packets, checkOf, carriesPiece, firstOf, seekOf, orNotThere}
+use Rattle.media_type.proofs.Laws.{known-under}
+use Rattle.field.specs.Field.{carriesTwo, isField}
+use Rattle.field.proofs.Laws.{mark-back}
+use Rattle.stream.specs.Stream.{Placed, packets, checkOf, carriesAs, carries, firstOf, seekOf, orNotThere}
 use Rattle.stream.specs.declared.Spot.{Spot}
 use Rattle.stream.specs.declared.Spot.the-variants as spot
 use Rattle.stream.specs.declared.CheckAnswer.{CheckAnswer}
 use Rattle.stream.specs.declared.CheckAnswer.the-variants as check
-use Rattle.book.specs.Book.{bookBytes, judgeBook, good, bookOf, Offset, nothing, there, firstIn, lookupOf, orNotThere as orNoRecord}
+use Rattle.book.specs.Book.{bookBytes, judgeBook, good, bookOf, Offset, nothing, there, isOf, firstIn, lookupOf, orNotThere as orNoRecord}
 use Rattle.book.proofs.Coding.{length-bytes, book-back, lookup-back}
 use Rattle.book_builder.specs.BookBuilder.{recorded, entryOf, entriesHere, entriesOf, entriesIn, inRoom, buildAnswer, builtIn}
 use Rattle.book_builder.specs.Same.{asSeek}
@@ -31,21 +34,27 @@ spotOf nothing = spot.Nothing
 
 -- one packet: it carries the field of the track where its record is of that track and field
 first-with : (track field : ℕ) (x : Placed) (xs : List Placed) → spotOf (firstIn track field (entriesOf xs)) ≡ firstOf track field xs
-    → spotOf (firstIn track field (entriesHere (x .at) (x .piece) ++ entriesOf xs)) ≡ pick (carriesPiece track field (x .piece)) (spot.At (x .at)) (firstOf track field xs)
-unfolding entriesHere recorded carriesPiece firstIn
+    → spotOf (firstIn track field (entriesHere (x .at) (getD (x .types) (x .piece .track) 0) (x .piece) ++ entriesOf xs)) ≡ pick (carries track field x) (spot.At (x .at)) (firstOf track field xs)
+unfolding entriesHere recorded carriesAs firstIn isOf
 first-with track field x xs i =
-    go (eqb (x .piece .«packet_type») 0xBF) (knownType (x .piece .«media_type»)) (eqb (x .piece .track) track) (eqb (x .piece .field) field) refl refl
+    go (eqb (x .piece .«packet_type») 0xBF) (knownType (x .piece .«media_type»)) (eqb (x .piece .track) track) (isField two (x .piece .field) field) refl refl refl
   where
-    go : (a k b d : Bool) → eqb (x .piece .track) track ≡ b → eqb (x .piece .field) field ≡ d
-        → spotOf (firstIn track field (pick (pick a k false) (entryOf (x .at) (x .piece) ∷ []) [] ++ entriesOf xs))
+    byte : ℕ
+    byte = getD (x .types) (x .piece .track) 0
+
+    two : Bool
+    two = carriesTwo byte (x .piece .field)
+
+    go : (a k b d : Bool) → knownType (x .piece .«media_type») ≡ k → eqb (x .piece .track) track ≡ b → isField two (x .piece .field) field ≡ d
+        → spotOf (firstIn track field (pick (pick a k false) (entryOf (x .at) byte (x .piece) ∷ []) [] ++ entriesOf xs))
         ≡ pick (pick a (pick b (pick d k false) false) false) (spot.At (x .at)) (firstOf track field xs)
-    go true true true true p q = rw (p, q)
-    go true true true false p q = rw (p, q) i
-    go true true false d p q = rw p i
-    go true false true true p q = i
-    go true false true false p q = i
-    go true false false d p q = i
-    go false k b d p q = i
+    go true true true true k p q = rw (p, mark-back two (x .piece .«media_type») (omega (arith, known-under _ k)), q)
+    go true true true false k p q = rw (p, mark-back two (x .piece .«media_type») (omega (arith, known-under _ k)), q) i
+    go true true false d k p q = rw p i
+    go true false true true k p q = i
+    go true false true false k p q = i
+    go true false false d k p q = i
+    go false k b d e p q = i
 
 first-same : (track field : ℕ) (xs : List Placed) → spotOf (firstIn track field (entriesOf xs)) ≡ firstOf track field xs
 unfolding entriesOf firstIn firstOf

@@ -1,115 +1,49 @@
 -- The entries of a stream are a good book: IDs up to 63, known types, rising offsets, and numbers that a record has room for.
 use Prim.Native.Nat.{ℕ, zero, suc, _+_, _-_, _^_, _<_, _≤_}
-use mathlib.Core.Path.{_≡_, refl, sym, ap}
+use mathlib.Core.Path.{_≡_, refl}
 use mathlib.Core.Bool.{Bool, true, false}
 use mathlib.Core.List.{List, [], _∷_, _++_}
 use native.Mathlib.Omega.{arith}
-use lib.ListN.{length, getD, take, drop, replicate}
-use lib.Seq.{getD-drop}
+use lib.ListN.{length, replicate}
 use lib.Dec.{eqb, ltb}
 use borrow.Author.Tests.{lt-ltb, le-ltb, ne-eqb}
 use Rattle.plate.specs.Choice.{pick}
 use Rattle.plate.specs.Ended.{none}
-use Rattle.plate.specs.Plate.{refusal}
-use Rattle.number.proofs.Laws.{Bytes, be-lt}
+use Rattle.number.proofs.Laws.{Bytes}
 use Rattle.media_type.specs.MediaType.{knownType}
-use Rattle.packet.specs.Packet.{headerAt}
-use Rattle.packet.specs.declared.PacketAnswer.{PacketAnswer}
-use Rattle.packet.specs.declared.PacketAnswer.the-variants as packet
-use Rattle.map_items.specs.declared.Verdict.{Verdict}
-use Rattle.map_items.specs.declared.Verdict.the-variants as verdict
-use Rattle.map.specs.Map.{mapVerdict}
-use Rattle.locator.specs.Locator.{tableOf}
-use Rattle.locator.specs.declared.LocatorAnswer.{LocatorAnswer}
-use Rattle.locator.specs.declared.LocatorAnswer.the-variants as locator
-use Rattle.media.specs.Media.{preambleOf, fieldsOf}
-use Rattle.media.specs.declared.Media.{Media}
-use Rattle.media.specs.declared.MediaAnswer.{MediaAnswer}
-use Rattle.media.specs.declared.MediaAnswer.the-variants as media
-use Rattle.piece.specs.Piece.{plainPiece, ofMap, ofLocator, ofMedia, contentOf, opens, afterHeader, pieceAt}
+use Rattle.media_type.proofs.Laws.{known-under}
+use Rattle.field.specs.Field.{typeWith, hasMark, isEven, carriesTwo}
+use Rattle.field.proofs.Laws.{two-even, mark-back}
+use Rattle.piece.specs.Piece.{pieceAt}
 use Rattle.piece.specs.declared.Piece.{Piece}
 use Rattle.piece.specs.declared.PieceAnswer.{PieceAnswer}
 use Rattle.piece.specs.declared.PieceAnswer.the-variants as piece
 use Rattle.piece.proofs.Laws.{told}
+use Rattle.piece.proofs.Fields.{field-fits}
 use Rattle.stream.specs.Stream.{closed, runsOut, typesAfter, onPiece, packetsFrom, packets}
-use Rattle.book.specs.Book.{risesAt, stands, judgeBook, good}
+use Rattle.book.specs.Book.{soundType, risesAt, stands, judgeBook, good}
 use Rattle.book.specs.declared.Entry.{Entry}
 use Rattle.book.proofs.Coding.{AllFit}
 use Rattle.book_builder.specs.BookBuilder.{recorded, entryOf, entriesHere, entriesOf, entriesIn}
 
--- a part of bytes is bytes
-bytes-take : (n : ℕ) (s : List ℕ) → Bytes s → Bytes (take n s)
-bytes-take zero s b i = record { fits = omega arith }
-bytes-take (suc n) [] b i = record { fits = omega arith }
-bytes-take (suc n) (x ∷ s) b zero = b zero
-bytes-take (suc n) (x ∷ s) b (suc i) = bytes-take n s (λ j. b (suc j)) i
-
-bytes-drop : (n : ℕ) (s : List ℕ) → Bytes s → Bytes (drop n s)
-bytes-drop n s b i = rw (getD-drop n s i 0) (b (n + i))
-
--- a field number has 32 bits
-media-field : (p : List ℕ) (m : Media) → Bytes p → preambleOf p 0 ≡ media.Preamble m → m .field < 256 ^ 4
-unfolding preambleOf
-media-field p m b = go (ltb (length p - 16) 16) (ltb 63 (getD p 17 0))
-  where
-    go : (t u : Bool) → pick t (media.Refused (refusal 8 16)) (pick u (media.Refused (refusal 12 0)) (media.Preamble (fieldsOf p))) ≡ media.Preamble m → m .field < 256 ^ 4
-    go true u e = absurd (let z : _≡_ {A = ℕ} 0 1 = cc in omega arith)
-    go false true e = absurd (let z : _≡_ {A = ℕ} 0 1 = cc in omega arith)
-    go false false e =
-        let a : fieldsOf p ≡ m = cc in
-        rw (sym (ap (λ (y : Media). y .field) a)) (be-lt p b 18 4)
-
-content-field : (p : List ℕ) (at packetType : ℕ) (x : Piece) → Bytes p → contentOf p at packetType ≡ piece.Whole x → x .field < 256 ^ 4
-unfolding contentOf
-content-field p at packetType x b = go (eqb packetType 0xBF) (eqb packetType 0xBC) (eqb packetType 0xFC)
-  where
-    plain : (packetType : ℕ) → plainPiece packetType (length p) ≡ piece.Whole x → x .field < 256 ^ 4
-    plain packetType e =
-        let a : record { «packet_type» = packetType; len = length p; «media_type» = 0; track = 0; field = 0 } ≡ x = cc in
-        rw (sym (ap (λ (y : Piece). y .field) a)) (omega arith)
-
-    of-map : (v : Verdict) → ofMap at (length p) v ≡ piece.Whole x → x .field < 256 ^ 4
-    of-map verdict.Accepted e = plain 0xBC e
-    of-map (verdict.Refused r) e = absurd (let z : _≡_ {A = ℕ} 0 1 = cc in omega arith)
-
-    of-locator : (v : LocatorAnswer) → ofLocator at (length p) v ≡ piece.Whole x → x .field < 256 ^ 4
-    of-locator (locator.Table t) e = plain 0xFC e
-    of-locator (locator.Refused r) e = absurd (let z : _≡_ {A = ℕ} 0 1 = cc in omega arith)
-
-    of-media : (v : MediaAnswer) → preambleOf p 0 ≡ v → ofMedia at (length p) v ≡ piece.Whole x → x .field < 256 ^ 4
-    of-media (media.Preamble m) q e =
-        let a : record { «packet_type» = 0xBF; len = length p; «media_type» = m .«media_type»; track = m .track; field = m .field } ≡ x = cc in
-        rw (sym (ap (λ (y : Piece). y .field) a)) (media-field p m b q)
-    of-media (media.Refused r) q e = absurd (let z : _≡_ {A = ℕ} 0 1 = cc in omega arith)
-
-    go : (t u v : Bool)
-        → pick t (ofMedia at (length p) (preambleOf p 0)) (pick u (ofMap at (length p) (mapVerdict p)) (pick v (ofLocator at (length p) (tableOf p)) (plainPiece packetType (length p)))) ≡ piece.Whole x
-        → x .field < 256 ^ 4
-    go true u v e = of-media (preambleOf p 0) refl e
-    go false true v e = of-map (mapVerdict p) e
-    go false false true e = of-locator (tableOf p) e
-    go false false false e = plain packetType e
-
-field-fits : (s : List ℕ) (at : ℕ) (first : Bool) (x : Piece) → Bytes s → pieceAt s at first ≡ piece.Whole x → x .field < 256 ^ 4
-unfolding pieceAt
-field-fits s at first x b = go (headerAt s at)
-  where
-    go : (h : PacketAnswer) → afterHeader s at first h ≡ piece.Whole x → x .field < 256 ^ 4
-    go (packet.Refused r) e = absurd (let z : _≡_ {A = ℕ} 0 1 = cc in omega arith)
-    go (packet.Whole w) e = by (opens first (w .«packet_type»)) e
-      where
-        by : (t : Bool) → pick t (contentOf (take (w .len) (drop at s)) at (w .«packet_type»)) (piece.Refused (refusal 17 at)) ≡ piece.Whole x → x .field < 256 ^ 4
-        by true e = content-field (take (w .len) (drop at s)) at (w .«packet_type») x (bytes-take (w .len) (drop at s) (bytes-drop at s b)) e
-        by false e = absurd (let z : _≡_ {A = ℕ} 0 1 = cc in omega arith)
-
 -- a packet with a record is of known type
-known-of : (x : Piece) → recorded x ≡ true → knownType (x .«media_type») ≡ true
+pub known-of : (x : Piece) → recorded x ≡ true → knownType (x .«media_type») ≡ true
 unfolding recorded
 known-of x = go (eqb (x .«packet_type») 0xBF)
   where
     go : (t : Bool) → pick t (knownType (x .«media_type»)) false ≡ true → knownType (x .«media_type») ≡ true
     go true e = e
     go false e = absurd (let z : _≡_ {A = ℕ} 0 1 = cc in omega arith)
+
+-- the type byte that a packet of known type gets is good beside its number
+marked-sound : (byte number type : ℕ) → knownType type ≡ true → soundType (typeWith (carriesTwo byte number) type) number ≡ true
+unfolding soundType typeWith
+marked-sound byte number type k = go (carriesTwo byte number) (two-even byte number)
+  where
+    go : (two : Bool) → (two ≡ true → isEven number ≡ true)
+        → pick (hasMark (pick two (type + 64) type)) (pick (knownType (pick two (type + 64) type - 64)) (isEven number) false) (knownType (pick two (type + 64) type)) ≡ true
+    go true e = let z : type + 64 - 64 ≡ type = omega arith in rw (mark-back true type (omega (arith, known-under type k)), z, k) (e refl)
+    go false e = rw (mark-back false type (omega (arith, known-under type k))) k
 
 -- entries that may stand behind n others, the latest of an offset, in a book with no fault
 pub record Sound (n last : ℕ) (es : List Entry) : Type 0 where
@@ -127,17 +61,17 @@ nothing n last = record { judged = refl; fit = tt }
 module _ (s : List ℕ) (b : Bytes s) (small : length s < 2 ^ 64) where
   -- a packet, and packets behind it
   on-whole : (at : ℕ) (first : Bool) (x : Piece) → pieceAt s at first ≡ piece.Whole x → (n last : ℕ) → Low n last at
-      → (es : List Entry) → ((m o : ℕ) → Low m o (at + x .len) → Sound m o es) → Sound n last (entriesHere at x ++ es)
+      → (byte : ℕ) (es : List Entry) → ((m o : ℕ) → Low m o (at + x .len) → Sound m o es) → Sound n last (entriesHere at byte x ++ es)
   unfolding entriesHere judgeBook AllFit stands risesAt
-  on-whole at first x e n last low es rest = go (recorded x) refl
+  on-whole at first x e n last low byte es rest = go (recorded x) refl
     where
-      go : (t : Bool) → recorded x ≡ t → Sound n last (pick t (entryOf at x ∷ []) [] ++ es)
+      go : (t : Bool) → recorded x ≡ t → Sound n last (pick t (entryOf at byte x ∷ []) [] ++ es)
       go false q = rest n last (λ o h. low o (omega arith))
       go true q =
           let w = told s at first x e in
           let i = rest (n + 1) at (λ o h. rw (ne-eqb (n + 1) 0 (λ z. omega arith), lt-ltb at o (omega (arith, w .cut .least)))) in
           record {
-            judged = rw (le-ltb 63 (x .track) (omega (arith, w .track)), known-of x q, low at (omega arith)) (i .judged);
+            judged = rw (le-ltb 63 (x .track) (omega (arith, w .track)), marked-sound byte (x .field) (x .«media_type») (known-of x q), low at (omega arith)) (i .judged);
             fit = (record { field = field-fits s at first x b e; at = omega (arith, w .cut .within, w .cut .least) }, i .fit);
           }
 
@@ -150,7 +84,7 @@ module _ (s : List ℕ) (b : Bytes s) (small : length s < 2 ^ 64) where
           → Sound n last (entriesOf (pick t (onPiece s at types (λ now-types next. packetsFrom s f false now-types next) a) (none runsOut) .list))
       step ih false a q = nothing n last
       step ih true (piece.Refused r) q = nothing n last
-      step ih true (piece.Whole x) q = on-whole at first x q n last low _ (by (eqb (x .«packet_type») 0xFB))
+      step ih true (piece.Whole x) q = on-whole at first x q n last low _ _ (by (eqb (x .«packet_type») 0xFB))
         where
           by : (t : Bool) (m o : ℕ) → Low m o (at + x .len)
               → Sound m o (entriesOf (pick t (none closed) (packetsFrom s f false (typesAfter s at x types) (at + x .len)) .list))

@@ -2,12 +2,13 @@
 use Prim.Native.Nat.{ℕ, _*_}
 use mathlib.Core.Bool.{Bool, false}
 use mathlib.Core.List.{List, [], _∷_, _++_}
-use lib.ListN.{length, drop}
+use lib.ListN.{length, getD, drop}
 use lib.Dec.{eqb, ltb}
 use Rattle.packet.specs.Packet.{typeMedia}
 use Rattle.plate.specs.Choice.{pick}
 use Rattle.plate.specs.Plate.{refusal}
 use Rattle.media_type.specs.MediaType.{knownType}
+use Rattle.field.specs.Field.{typeWith, carriesTwo}
 use Rattle.piece.specs.declared.Piece.{Piece}
 use Rattle.stream.specs.Stream.{Placed, packets, checkOf}
 use Rattle.stream.specs.declared.CheckAnswer.{CheckAnswer}
@@ -21,17 +22,17 @@ use Rattle.book_builder.specs.declared.BuildAnswer.the-variants as build
 unfoldable pub recorded : Piece → Bool
 recorded x = pick (eqb (x .«packet_type») typeMedia) (knownType (x .«media_type»)) false
 
--- the record of a packet at an offset
-abbrev pub entryOf : ℕ → Piece → Entry
-entryOf at x = record { track = x .track; «media_type» = x .«media_type»; field = x .field; at = at }
+-- the record of a packet at an offset: its type byte has the mark just where the packet carries two fields (02, §2), by the type byte that the latest map gives its ID
+abbrev pub entryOf : ℕ → ℕ → Piece → Entry
+entryOf at byte x = record { track = x .track; «media_type» = typeWith (carriesTwo byte (x .field)) (x .«media_type»); field = x .field; at = at }
 
-unfoldable pub entriesHere : ℕ → Piece → List Entry
-entriesHere at x = pick (recorded x) (entryOf at x ∷ []) []
+unfoldable pub entriesHere : ℕ → ℕ → Piece → List Entry
+entriesHere at byte x = pick (recorded x) (entryOf at byte x ∷ []) []
 
 -- one record a packet that has one, in stream order
 unfoldable pub entriesOf : List Placed → List Entry
 entriesOf [] = []
-entriesOf (x ∷ xs) = entriesHere (x .at) (x .piece) ++ entriesOf xs
+entriesOf (x ∷ xs) = entriesHere (x .at) (getD (x .types) (x .piece .track) 0) (x .piece) ++ entriesOf xs
 
 -- of a stream that the check refuses, those of the packets that its bytes give, which no answer shows
 unfoldable pub entriesIn : List ℕ → List Entry

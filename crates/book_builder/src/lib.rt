@@ -1,5 +1,6 @@
 // The builder of the seek book: one record a media packet of known type, in stream order, into a lent buffer.
 use book::Entry;
+use map_tracks::Types;
 use piece::Piece;
 use plate::Refusal;
 use stream::CheckAnswer;
@@ -7,6 +8,10 @@ ghost use mathlib.Core.Path.{_≡_};
 ghost use Prim.Native.Nat.{_+_, _*_, _≤_};
 ghost use lib.ListN.{length};
 ghost use lib.Seq.{sets};
+ghost use mathlib.Core.Bool.{true};
+ghost use Rattle.plate.specs.Choice.{pick};
+ghost use Rattle.media_type.specs.MediaType.{knownType};
+ghost use Rattle.field.specs.Field.{typeWith, carriesTwo};
 ghost use Rattle.book.specs.Book.{recordBytes, bookBytes};
 ghost use Rattle.book_builder.specs.BookBuilder.{recorded, entriesHere, entriesIn, buildAnswer, builtIn};
 ghost use Rattle.book_builder.specs.Inside.{Accepted};
@@ -29,8 +34,8 @@ fn is_recorded(x: Piece) -> bool
 }
 
 // How many records a packet has.
-fn records_of(x: Piece, at: usize) -> usize
-    ensures { λ r. ⌜ r ≡ length (entriesHere at x) ⌝ }
+fn records_of(x: Piece) -> usize
+    ensures { λ r. ⌜ r ≡ pick (recorded x) 1 0 ⌝ }
 {
     if is_recorded(x) {
         return 1;
@@ -48,7 +53,7 @@ fn count(s: &[u8]) -> usize
     while at < s.len() {
         let x = piece::seen_at(s, at);
         let e = at + x.len;
-        n += records_of(x, at);
+        n += records_of(x);
         at = e;
     }
     n
@@ -67,18 +72,28 @@ fn put_record(out: &mut [u8], to: usize, e: Entry)
     number::put_le(out, to + 8, e.at, 8);
 }
 
+// The type byte of a packet's record: with the mark where it carries two fields, by the type byte of its ID.
+fn marked_type(x: Piece, listed: u8) -> u8
+    requires { ⌜ knownType (x .«media_type») ≡ true ⌝ }
+    ensures { λ r. ⌜ r ≡ typeWith (carriesTwo listed (x .field)) (x .«media_type») ⌝ }
+{
+    let media_type = x.media_type;
+    field::type_with(field::carries_two(listed, x.field as u64), media_type)
+}
+
 // Writes the record of a packet at an offset, if it has one; the place after it.
-fn put_records(out: &mut [u8], to: usize, x: Piece, at: usize) -> usize
-    requires { ⌜ to + 16 * length (entriesHere at x) ≤ length (now out) ⌝ }
-    ensures { λ r. ⌜ (r ≡ to + 16 * length (entriesHere at x)) × (now (out .exit) ≡ sets (now (out .entry)) to (bookBytes (entriesHere at x))) ⌝ }
+fn put_records(out: &mut [u8], to: usize, x: Piece, at: usize, listed: u8) -> usize
+    requires { ⌜ to + 16 * length (entriesHere at listed x) ≤ length (now out) ⌝ }
+    ensures { λ r. ⌜ (r ≡ to + 16 * length (entriesHere at listed x)) × (now (out .exit) ≡ sets (now (out .entry)) to (bookBytes (entriesHere at listed x))) ⌝ }
 {
     if is_recorded(x) {
+        let media_type = marked_type(x, listed);
         put_record(
             out,
             to,
             Entry {
                 track: x.track,
-                media_type: x.media_type,
+                media_type,
                 field: x.field as usize,
                 at,
             },
@@ -95,10 +110,18 @@ fn write(out: &mut [u8], s: &[u8])
 {
     let mut at: usize = 0;
     let mut to: usize = 0;
+    let mut types = Types {
+        media_types: [0u8; 64],
+    };
     while at < s.len() {
         let x = piece::seen_at(s, at);
+        let packet_type = x.packet_type;
         let e = at + x.len;
-        to = put_records(out, to, x, at);
+        if packet_type == packet::MAP {
+            types = map::types_of(&s[at..e]);
+        }
+        let k = number::wide(x.track);
+        to = put_records(out, to, x, at, types.media_types[k]);
         at = e;
     }
 }

@@ -9,6 +9,8 @@ use Rattle.map_answer.proofs.is_allowed.Kinds as is-allowed-kinds
 use Rattle.map_answer.proofs.is_allowed.Reads as is-allowed-reads
 use Rattle.map_answer.proofs.code_at.Kinds as code-at-kinds
 use Rattle.map_answer.proofs.code_at.Reads as code-at-reads
+use Rattle.map_answer.proofs.is_progressive.Kinds as is-progressive-kinds
+use Rattle.map_answer.proofs.is_progressive.Reads as is-progressive-reads
 use Rattle.map_answer.proofs.is_null.Kinds as is-null-kinds
 use Rattle.map_answer.proofs.is_null.Reads as is-null-reads
 use Rattle.map_answer.proofs.material_says.Kinds as material-says-kinds
@@ -27,6 +29,9 @@ is-allowed-once κs a x y s t p q = p ∙ sym q
 
 pub code-at-once : OneAnswer 1 code-at-kinds.ps code-at-kinds.r code-at-reads.Post
 code-at-once κs a x y s t p q = p ∙ sym q
+
+pub is-progressive-once : OneAnswer 0 is-progressive-kinds.ps is-progressive-kinds.r is-progressive-reads.Post
+is-progressive-once κs a x y s t p q = p ∙ sym q
 
 pub is-null-once : OneAnswer 0 is-null-kinds.ps is-null-kinds.r is-null-reads.Post
 is-null-once κs a x y s t p q = p ∙ sym q

@@ -42,6 +42,13 @@ codeOf tag (value.Is n) =
     (pick (eqb n 0xFFFFFFFE) code.NotAvailable
     (pick (allowed tag n) (code.Is n) code.Absent))
 
+-- fields per frame 1: the frames of the track are coded whole (Table 6: progressive; 4.8; 02, §2)
+unfoldable pub isProgressive : Code → Bool
+isProgressive (code.Is n) = eqb n 1
+isProgressive code.NotApplicable = false
+isProgressive code.NotAvailable = false
+isProgressive code.Absent = false
+
 -- the number of the paper that each case of a code is; an absent code is none
 pub data Meaning : Type 0 where
   nothing : Meaning

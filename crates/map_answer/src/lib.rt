@@ -8,7 +8,7 @@ ghost use lib.ListN.{length};
 ghost use Rattle.map_items.specs.Items.{sectionOf};
 ghost use Rattle.plate.specs.Choice.{pick};
 ghost use Rattle.map_items.specs.Find.{find, partOf};
-ghost use Rattle.map_answer.specs.Answer.{valueOf, allowed, codeOf, isNull, materialOf, trackOf};
+ghost use Rattle.map_answer.specs.Answer.{valueOf, allowed, codeOf, isProgressive, isNull, materialOf, trackOf};
 ghost use Rattle.map_answer.specs.Inside.{InSection, partBytes};
 
 // A number of a map, if it is there.
@@ -141,6 +141,18 @@ pub fn code_at(s: &[u8], base: usize, tag: u8) -> Code
     match value_at(s, base, tag) {
         Value::Is(n) => code_of(tag, n),
         Value::Absent => Code::Absent,
+    }
+}
+
+// Whether a track's fields per frame are 1.
+pub fn is_progressive(fields: Code) -> bool
+    ensures { λ r. ⌜ r ≡ isProgressive fields ⌝ }
+{
+    match fields {
+        Code::Is(n) => n == 1,
+        Code::NotApplicable => false,
+        Code::NotAvailable => false,
+        Code::Absent => false,
     }
 }
 

@@ -1,10 +1,10 @@
 -- What an input without fault is: its slots fit their fields, its types are known, its IDs are narrow and once each.
 use Prim.Native.Nat.{ℕ, zero, suc, _+_, _*_, _%_, _<_, _≤_}
-use mathlib.Core.Path.{_≡_, refl, sym, _∙_}
+use mathlib.Core.Path.{_≡_, refl, sym}
 use mathlib.Core.Bool.{Bool, true, false}
 use mathlib.Core.List.{List, [], _∷_, _++_, map}
 use native.Mathlib.Omega.{arith}
-use borrow.Author.Tests.{eq-eqb, ne-eqb, eqb-true, ltb-false, leb-true, leb-false, le-leb, lt-leb}
+use borrow.Author.Tests.{eq-eqb, ne-eqb, eqb-true, ltb-false, leb-true}
 use lib.ListN.{length, take, drop, length-map}
 use lib.Dec.{ltb, leb, eqb}
 use Rattle.plate.specs.Choice.{pick}
@@ -59,18 +59,6 @@ module _ (text ws : List ℕ) where
       slot-of k n (at + 3) (t + 1) tag place (omega arith) (omega arith) (omega arith) (none-graver (slotFault text (slotAt ws at t)) (slotsFault text (slots n ws (at + 3) (t + 1))) g .1)
 
 -- a track's type without fault is one of Table 5, and an ID without fault is at most 63
-known-over : (k : ℕ) → 26 < k → knownType k ≡ false
-unfolding knownType
-known-over k h =
-    simp (le-leb 3 k (omega arith), lt-leb k 4 (omega arith), le-leb 7 k (omega arith), lt-leb k 18 (omega arith), le-leb 20 k (omega arith), lt-leb k 26 (omega arith))
-
-pub known-under : (k : ℕ) → knownType k ≡ true → k ≤ 26
-known-under k e = go (leb k 26) refl
-  where
-    go : (b : Bool) → leb k 26 ≡ b → k ≤ 26
-    go true q = leb-true k 26 q
-    go false q = absurd (let n = known-over k (leb-false k 26 q) in let z : false ≡ true = sym n ∙ e in let y : _≡_ {A = ℕ} 0 1 = cc in omega arith)
-
 pub own-known : (t : Given) → ownFault t ≡ 0 → knownType (t .mediaType) ≡ true
 unfolding ownFault
 own-known t = go (knownType (t .mediaType))

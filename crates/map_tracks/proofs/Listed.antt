@@ -10,7 +10,7 @@ use Rattle.plate.specs.Choice.{pick}
 use Rattle.number.specs.Number.{be}
 use Rattle.map_items.specs.Items.{sectionOf}
 use Rattle.map_answer.specs.Answer.{trackOf}
-use Rattle.map_tracks.specs.Tracks.{Description, Placed, splitTracks, tracksOf, isListed, listed, recordOf, kthOf, idOf, typesOf}
+use Rattle.map_tracks.specs.Tracks.{Description, Placed, splitTracks, tracksOf, isListed, listed, recordOf, kthOf, idOf, byteOf, typesOf}
 use Rattle.map_tracks.specs.Inside.{keyOf, keyedOf}
 use Rattle.map_tracks.specs.declared.Kth.the-variants.{Record}
 use Rattle.map_tracks.proofs.Split.{trackAt, items-length, split-done, split-short, split-over, split-track}
@@ -82,7 +82,7 @@ module _ (d : Description) where
       go true e = omega arith
       go false e = omega arith
 
-  pub type-turn : (t : List ℕ) (ds : List Description) → typesOf t (d ∷ ds) ≡ typesOf (pick (isListed d) (set t (d .id - 0xC0) (d .typeByte - 0x80)) t) ds
+  pub type-turn : (t : List ℕ) (ds : List Description) → typesOf t (d ∷ ds) ≡ typesOf (pick (isListed d) (set t (d .id - 0xC0) (byteOf (d .typeByte) (d .items))) t) ds
   unfolding typesOf
   type-turn t ds = refl
 

@@ -8,13 +8,14 @@ use Rattle.plate.specs.Choice.{pick}
 use Rattle.plate.specs.Ended.{Ended, none, inFront}
 use Rattle.number.specs.Number.{beBytes}
 use Rattle.media_type.specs.MediaType.{knownType, wrongForm}
+use Rattle.field.specs.Field.{typeWith}
 use Rattle.map_items.specs.Items.{Item, sectionOf}
 use Rattle.map_items.specs.Find.{Found, missing, found, find, partOf}
 use Rattle.map_items.specs.Judge.{bad, andThen, has, verdictOf}
 use Rattle.map_items.specs.declared.Section.the-variants as section
 use Rattle.map_items.specs.declared.Verdict.{Verdict}
 use Rattle.map_items.specs.declared.Verdict.the-variants.{Accepted}
-use Rattle.map_answer.specs.Answer.{isNull, trackOf}
+use Rattle.map_answer.specs.Answer.{valueOf, codeOf, isProgressive, isNull, trackOf}
 use Rattle.map_answer.specs.declared.Track.{Track}
 use Rattle.map_tracks.specs.declared.Kth.{Kth}
 use Rattle.map_tracks.specs.declared.Kth.the-variants.{Record, Nothing}
@@ -121,7 +122,11 @@ unfoldable pub idOf : ℕ → List Placed → Kth
 idOf id [] = Nothing
 idOf id (x ∷ xs) = pick (eqb (x .track .id - 0xC0) id) (Record (recordOf x)) (idOf id xs)
 
--- by ID, the media type under which a track is listed, and 0 where none is
+-- the type byte of a listed track: its media type, with the mark where its items say fields per frame 1 (02, §2); no name hides that item
+unfoldable pub byteOf : ℕ → List ℕ → ℕ
+byteOf typeByte items = typeWith (isProgressive (codeOf 0x52 (valueOf (find 0x52 0 (sectionOf items .list))))) (typeByte - 0x80)
+
+-- by ID, the type byte of the track that is listed under it, and 0 where none is
 unfoldable pub typesOf : List ℕ → List Description → List ℕ
 typesOf types [] = types
-typesOf types (d ∷ ds) = typesOf (pick (isListed d) (set types (d .id - 0xC0) (d .typeByte - 0x80)) types) ds
+typesOf types (d ∷ ds) = typesOf (pick (isListed d) (set types (d .id - 0xC0) (byteOf (d .typeByte) (d .items))) types) ds

@@ -14,14 +14,14 @@ ghost use Rattle.map_items.specs.Items.{sectionOf};
 ghost use Rattle.map_items.specs.Find.{find, partOf};
 ghost use Rattle.map_answer.specs.Answer.{isNull};
 ghost use Rattle.map_tracks.specs.Inside.{holds, Empty, Adds, keyOf, keyedOf};
-ghost use Rattle.map_tracks.specs.Tracks.{trackOver, trackVerdict, tracksOf, tracksVerdict, listed, kthOf, idOf, typesOf};
+ghost use Rattle.map_tracks.specs.Tracks.{trackOver, trackVerdict, tracksOf, tracksVerdict, listed, kthOf, idOf, byteOf, typesOf};
 
 // The track IDs seen so far: bit k, worth 2^k, is ID k.
 pub struct Seen {
     pub ids: u64,
 }
 
-// By ID, the type under which a track is listed; 0 where none is.
+// By ID, the type under which a track is listed, with the mark where its fields per frame are 1; 0 where none is.
 pub struct Types {
     pub media_types: [u8; 64],
 }
@@ -73,14 +73,25 @@ fn one_if_listed(type_byte: u8) -> usize
     0
 }
 
+// The media type of a track, with the mark where its items say fields per frame 1.
+fn listed_byte(type_byte: u8, s: &[u8]) -> u8
+    ensures { λ r. ⌜ r ≡ byteOf «type_byte» (now (s .entry)) ⌝ }
+{
+    let fields = map_answer::code_at(s, 0, 0x52);
+    field::type_with(
+        map_answer::is_progressive(fields),
+        map_answer::bare(type_byte, 0x80),
+    )
+}
+
 // The types by ID with those of one track more, if it is listed.
-fn with_type(table: Types, type_byte: u8, id: u8) -> Types
-    ensures { λ r. ⌜ r .«media_types» ≡ pick (knownType («type_byte» - 0x80)) (set (table .«media_types») (id - 0xC0) («type_byte» - 0x80)) (table .«media_types») ⌝ }
+fn with_type(table: Types, type_byte: u8, id: u8, s: &[u8]) -> Types
+    ensures { λ r. ⌜ r .«media_types» ≡ pick (knownType («type_byte» - 0x80)) (set (table .«media_types») (id - 0xC0) (byteOf «type_byte» (now (s .entry)))) (table .«media_types») ⌝ }
 {
     if is_listed(type_byte) {
         let mut next = table;
         let k = number::wide(map_answer::bare(id, 0xC0));
-        next.media_types[k] = map_answer::bare(type_byte, 0x80);
+        next.media_types[k] = listed_byte(type_byte, s);
         return next;
     }
     table
@@ -247,7 +258,7 @@ pub fn record_of_id(s: &[u8], base: usize, id: usize) -> Kth
     record_by(s, base, true, id)
 }
 
-// The listed IDs of a section, with their types.
+// The listed IDs of a section, with their type bytes.
 pub fn types_by_id(s: &[u8]) -> Types
     ensures { λ r. ⌜ r .«media_types» ≡ typesOf (replicate 64 0) (tracksOf (now (s .entry)) .list) ⌝ }
 {
@@ -264,8 +275,10 @@ pub fn types_by_id(s: &[u8]) -> Types
         if left - 4 < n {
             return table;
         }
-        table = with_type(table, s[at], s[at + 1]);
-        at = at + 4 + n;
+        let a = at + 4;
+        let e = a + n;
+        table = with_type(table, s[at], s[at + 1], &s[a..e]);
+        at = e;
     }
     table
 }

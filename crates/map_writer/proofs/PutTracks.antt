@@ -18,7 +18,8 @@ use Rattle.map_writer.specs.Write.{itemsOf}
 use Rattle.map_given.proofs.Laws.{tracks-more, no-tracks}
 use Rattle.map_writer.proofs.Laws.{tracks-size-turn}
 use Rattle.map_writer.proofs.Puts.{slots-length}
-use Rattle.map_given.proofs.Clean.{tracks-clean, Narrow, known-under, own-known}
+use Rattle.map_given.proofs.Clean.{tracks-clean, Narrow, own-known}
+use Rattle.media_type.proofs.Laws.{known-under}
 
 -- a track: two bytes, the length and the items
 pub track-bytes : (text : List ℕ) (t : Given) → slotsFault text (t .slots) ≡ 0

@@ -15,7 +15,7 @@ use Rattle.piece.specs.declared.PieceAnswer.the-variants as piece
 use Rattle.order.specs.Order.{started, misplaced, overdue, unmapped, progressAfter, ending, stepOf}
 use Rattle.order.specs.declared.Progress.{Progress}
 use Rattle.order.specs.declared.Step.the-variants as step
-use Rattle.stream.specs.Stream.{Packets, closed, runsOut, typesAfter, onPiece, packetsFrom, packets, onStep, judgePackets, checkOf}
+use Rattle.stream.specs.Stream.{Packets, closed, runsOut, typesAfter, onPiece, packetsFrom, packets, onStep, typeFor, judgePackets, checkOf}
 use Rattle.stream.specs.declared.CheckAnswer.the-variants as check
 
 -- a refusal is no number of packets
@@ -32,7 +32,7 @@ module _ (s : List ℕ) (rest : List ℕ → ℕ → Packets) (next : (types : L
   unfolding judgePackets stepOf ending progressAfter
   piece-counts types at p n (piece.Refused r) e = no _ n e
   piece-counts types at p n (piece.Whole x) e =
-      go (misplaced (p .«eos_due») (p .flt) (x .«packet_type»)) (overdue (p .«since_map») (x .«packet_type»)) (unmapped (x .«packet_type») (x .«media_type») (getD (typesAfter s at x types) (x .track) 0)) (eqb (x .«packet_type») 0xFB)
+      go (misplaced (p .«eos_due») (p .flt) (x .«packet_type»)) (overdue (p .«since_map») (x .«packet_type»)) (unmapped (x .«packet_type») (x .«media_type») (typeFor (typesAfter s at x types) (x .track))) (eqb (x .«packet_type») 0xFB)
       (ltb (at + x .len) (length s)) (p .umf) e
     where
       go : (a b c d more umf : Bool)

@@ -24,7 +24,7 @@ use Rattle.order.specs.declared.Progress.{Progress}
 use Rattle.order.specs.declared.Step.{Step}
 use Rattle.order.specs.declared.Step.the-variants as step
 use Rattle.order.proofs.Laws.{step-next, step-ended}
-use Rattle.stream.specs.Stream.{Placed, Packets, runsOut, closed, typesAfter, onPiece, packetsFrom, packets, onStep, stepAt, judgePackets, checkOf}
+use Rattle.stream.specs.Stream.{Placed, Packets, runsOut, closed, typesAfter, onPiece, packetsFrom, packets, onStep, typeFor, stepAt, judgePackets, checkOf}
 use Rattle.stream.specs.Lacking.{CheckRefuses, SeekRefuses, StreamCutOff}
 use Rattle.stream.specs.declared.CheckAnswer.{CheckAnswer}
 use Rattle.stream.specs.declared.CheckAnswer.the-variants as check
@@ -83,9 +83,9 @@ module _ (s : List ℕ) (x : Placed) (after : List Placed) (k : ℕ) (header : 1
         → Comes at (judged (length part) p (packetsFrom part g first types at))
     earlier before m (step.Refused r) i e = absurd (let z : _≡_ {A = ℕ} 0 1 = cc in omega arith)
     earlier before m (step.Ended j) i e =
-        no-list before (rw (step-ended p y at (getD (typesAfter s at y types) (y .track) 0) (ltb (at + y .len) (length s)) j i) at m)
+        no-list before (rw (step-ended p y at (typeFor (typesAfter s at y types) (y .track)) (ltb (at + y .len) (length s)) j i) at m)
     earlier before m (step.Next q) i e =
-        let v = step-next p y at (getD (typesAfter s at y types) (y .track) 0) (ltb (at + y .len) (length s)) q i in
+        let v = step-next p y at (typeFor (typesAfter s at y types) (y .track)) (ltb (at + y .len) (length s)) q i in
         let b = told s at first y w in
         let c = rest (g - 1) false (typesAfter s at y types) (at + y .len) q n before (omega (arith, b .cut .least, b .cut .within)) (rw (v .0) at e) (rw (v .0) at m) in
         let d : length part ≡ x .at + k = length-take-le (x .at + k) s (omega (arith, c .within)) in

@@ -19,7 +19,7 @@ use Rattle.order.specs.Order.{started, progressAfter, stepOf}
 use Rattle.order.specs.declared.Progress.{Progress}
 use Rattle.order.specs.declared.Step.the-variants as step
 use Rattle.order.proofs.Laws.{step-next, step-next-any, step-ended}
-use Rattle.stream.specs.Stream.{Packets, runsOut, closed, typesAfter, onPiece, packetsFrom, packets, ranOut, onStep, stepAt, judgePackets, checkOf, carriesPiece, firstOf, orNotThere, ifChecked, seekOf}
+use Rattle.stream.specs.Stream.{Packets, runsOut, closed, typesAfter, onPiece, packetsFrom, packets, ranOut, onStep, typeFor, stepAt, judgePackets, checkOf, carriesPiece, firstOf, orNotThere, ifChecked, seekOf}
 use Rattle.stream.specs.Inside.{orFirst, firstHere, collect, runOf}
 use Rattle.stream.specs.declared.Spot.{Spot}
 use Rattle.stream.specs.declared.Spot.the-variants as spot
@@ -82,8 +82,8 @@ pub onward : (s z : List ℕ) (g : ℕ) (first : Bool) (types : List ℕ) (at : 
     → judged (length z) p (packetsFrom z g first types at) ≡ judged (length z) q (packetsFrom z (g - 1) false (typesAfter s at x types) (at + x .len))
 unfolding judgePackets
 onward s z g first types at p x q h l w same k =
-    let n = step-next p x at (getD (typesAfter s at x types) (x .track) 0) (ltb (at + x .len) (length s)) q k in
-    let again = step-next-any p x at (getD (typesAfter s at x types) (x .track) 0) (ltb (at + x .len) (length s)) q k (ltb (at + x .len) (length z)) in
+    let n = step-next p x at (typeFor (typesAfter s at x types) (x .track)) (ltb (at + x .len) (length s)) q k in
+    let again = step-next-any p x at (typeFor (typesAfter s at x types) (x .track)) (ltb (at + x .len) (length s)) q k (ltb (at + x .len) (length z)) in
     ap (judged (length z) p) (turn z g first types at h l) ∙ rw (w, same, again, n .0)
 
 -- a first carrier so far, this packet, and what follows
@@ -115,30 +115,30 @@ module _ (s : List ℕ) (track field at : ℕ) (p : Progress) (types : List ℕ)
       rest = pick (eqb (x .«packet_type») 0xFB) (none closed) (packetsFrom s (l .fuel - 1) false now-types (at + x .len))
 
       turned : runOf s track field
-          ≡ collect (onStep (λ q. judgePackets (length s) q (rest .list) (rest .end)) (stepOf p x at (getD now-types (x .track) 0) (ltb (at + x .len) (length s))))
-          (orFirst found (pick (carriesPiece track field x) (spot.At at) (firstOf track field (rest .list))))
+          ≡ collect (onStep (λ q. judgePackets (length s) q (rest .list) (rest .end)) (stepOf p x at (typeFor now-types (x .track)) (ltb (at + x .len) (length s))))
+          (orFirst found (pick (carriesPiece track field (getD now-types (x .track) 0) x) (spot.At at) (firstOf track field (rest .list))))
       unfolding judgePackets firstOf
       turned = now-turn ∙ rw (e, ← t)
 
-      pub on-step-refused : (r : Refusal) → stepOf p x at (getD now-types (x .track) 0) (ltb (at + x .len) (length s)) ≡ step.Refused r → run.Refused r ≡ runOf s track field
+      pub on-step-refused : (r : Refusal) → stepOf p x at (typeFor now-types (x .track)) (ltb (at + x .len) (length s)) ≡ step.Refused r → run.Refused r ≡ runOf s track field
       on-step-refused r f = sym (turned ∙ rw f)
 
-      pub on-ended : (n : ℕ) → stepOf p x at (getD now-types (x .track) 0) (ltb (at + x .len) (length s)) ≡ step.Ended n
-          → run.Passed (record { count = n; first = orFirst found (firstHere track field x at) }) ≡ runOf s track field
+      pub on-ended : (n : ℕ) → stepOf p x at (typeFor now-types (x .track)) (ltb (at + x .len) (length s)) ≡ step.Ended n
+          → run.Passed (record { count = n; first = orFirst found (firstHere track field (getD now-types (x .track) 0) x at) }) ≡ runOf s track field
       unfolding firstOf
-      on-ended n f = sym (turned ∙ rw (f, step-ended p x at (getD now-types (x .track) 0) (ltb (at + x .len) (length s)) n f))
+      on-ended n f = sym (turned ∙ rw (f, step-ended p x at (typeFor now-types (x .track)) (ltb (at + x .len) (length s)) n f))
 
-      pub on-next : (q : Progress) → stepOf p x at (getD now-types (x .track) 0) (ltb (at + x .len) (length s)) ≡ step.Next q
-          → Left s track field (at + x .len) q now-types (orFirst found (firstHere track field x at))
+      pub on-next : (q : Progress) → stepOf p x at (typeFor now-types (x .track)) (ltb (at + x .len) (length s)) ≡ step.Next q
+          → Left s track field (at + x .len) q now-types (orFirst found (firstHere track field (getD now-types (x .track) 0) x at))
       unfolding progressAfter
       on-next q f =
-          let n = step-next p x at (getD now-types (x .track) 0) (ltb (at + x .len) (length s)) q f in
+          let n = step-next p x at (typeFor now-types (x .track)) (ltb (at + x .len) (length s)) q f in
           let w = told s at (eqb (p .count) 0) x e in
           let k : eqb (q .count) 0 ≡ false = rw (← (n .1)) (ne-eqb (p .count + 1) 0 (λ z. omega arith)) in
           record {
             fuel = l .fuel - 1;
             enough = omega (arith, l .enough, w .cut .least, w .cut .within);
-            same = turned ∙ rw (f, n .0, k, first-assoc found (carriesPiece track field x) at (firstOf track field (packetsFrom s (l .fuel - 1) false now-types (at + x .len) .list)));
+            same = turned ∙ rw (f, n .0, k, first-assoc found (carriesPiece track field (getD now-types (x .track) 0) x) at (firstOf track field (packetsFrom s (l .fuel - 1) false now-types (at + x .len) .list)));
           }
 
 -- a step adds one packet, and one since the latest map at most

@@ -18,7 +18,7 @@ use Rattle.order.specs.declared.Progress.{Progress}
 use Rattle.order.specs.declared.Step.{Step}
 use Rattle.order.specs.declared.Step.the-variants as step
 use Rattle.order.proofs.Numbers.{OfStep, step-numbers}
-use Rattle.stream.specs.Stream.{Placed, End, closed, runsOut, stops, Packets, typesAfter, onPiece, packetsFrom, packets, ranOut, onStep, stepAt, judgePackets, checkOf, firstOf, orNotThere, ifChecked, seekOf}
+use Rattle.stream.specs.Stream.{Placed, End, closed, runsOut, stops, Packets, typesAfter, onPiece, packetsFrom, packets, ranOut, onStep, typeFor, stepAt, judgePackets, checkOf, firstOf, orNotThere, ifChecked, seekOf}
 use Rattle.stream.specs.WrongForm.{CheckNumber}
 use Rattle.stream.specs.declared.Spot.{Spot}
 use Rattle.stream.specs.declared.Spot.the-variants as spot
@@ -89,7 +89,7 @@ judge-numbers n [] closed h p = late 17 18 (ranOut (p .count) n) (omega arith) (
 judge-numbers n [] runsOut h p = late 17 18 (ranOut (p .count) n) (omega arith) (omega arith) (out-numbers (p .count) n)
 judge-numbers n [] (stops r) h p = h
 judge-numbers n (x ∷ xs) e h p =
-    go (λ q. judgePackets n q xs e) (judge-numbers n xs e h) (stepAt n p x) (step-numbers p (x .piece) (x .at) (getD (x .types) (x .piece .track) 0) (ltb (x .at + x .piece .len) n))
+    go (λ q. judgePackets n q xs e) (judge-numbers n xs e h) (stepAt n p x) (step-numbers p (x .piece) (x .at) (typeFor (x .types) (x .piece .track)) (ltb (x .at + x .piece .len) n))
   where
     go : (next : Progress → CheckAnswer) → ((q : Progress) → OfCheck (next q)) → (a : Step) → OfStep a → OfCheck (onStep next a)
     go next k (step.Next q) i = k q

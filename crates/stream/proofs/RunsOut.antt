@@ -24,7 +24,7 @@ use Rattle.order.specs.declared.Step.{Step}
 use Rattle.order.specs.declared.Step.the-variants as step
 use Rattle.order.proofs.Laws.{step-next}
 use Rattle.order.proofs.Numbers.{StandsAt, step-stands}
-use Rattle.stream.specs.Stream.{Packets, runsOut, closed, typesAfter, onPiece, packetsFrom, packets, onStep, stepAt, judgePackets, checkOf}
+use Rattle.stream.specs.Stream.{Packets, runsOut, closed, typesAfter, onPiece, packetsFrom, packets, onStep, typeFor, stepAt, judgePackets, checkOf}
 use Rattle.stream.specs.declared.CheckAnswer.{CheckAnswer}
 use Rattle.stream.specs.declared.CheckAnswer.the-variants as check
 use Rattle.stream.proofs.Laws.{turn, judged, onward}
@@ -62,11 +62,11 @@ module _ (s t : List ℕ) where
         → onStep (λ q. judged (length s) q (behind x)) a ≡ check.Refused out → Comes (judged (length (s ++ t)) p (packetsFrom (s ++ t) g first types at))
     on-step l x w (step.Refused q) i e =
         let z : q ≡ out = cc in
-        let a = subst (StandsAt at) i (step-stands p x at (getD (typesAfter s at x types) (x .track) 0) (ltb (at + x .len) (length s))) in
+        let a = subst (StandsAt at) i (step-stands p x at (typeFor (typesAfter s at x types) (x .track)) (ltb (at + x .len) (length s))) in
         absurd (omega (arith, a, ap (λ (r : Refusal). r .place) z))
     on-step l x w (step.Ended n) i e = absurd (let z : _≡_ {A = ℕ} 0 1 = cc in omega arith)
     on-step l x w (step.Next q) i e =
-        let n = step-next p x at (getD (typesAfter s at x types) (x .track) 0) (ltb (at + x .len) (length s)) q i in
+        let n = step-next p x at (typeFor (typesAfter s at x types) (x .track)) (ltb (at + x .len) (length s)) q i in
         let b = told s at first x w in
         let c = rest (g - 1) false (typesAfter s at x types) (at + x .len) q (b .cut .within) (omega (arith, b .cut .least, b .cut .within)) (omega (arith, b .cut .least, b .cut .within)) (rw (n .0) at e) in
         let o = onward s (s ++ t) g first types at p x q (omega arith) (omega (arith, length-append s t)) (piece-before s t at first x w) (cut-before s t at (x .len) (b .cut .within)) i in

@@ -29,7 +29,7 @@ use Rattle.order.specs.declared.Step.{Step}
 use Rattle.order.specs.declared.Step.the-variants as step
 use Rattle.order.proofs.Laws.{step-next}
 use Rattle.order.proofs.Numbers.{OfStep, step-numbers}
-use Rattle.stream.specs.Stream.{Packets, runsOut, closed, stops, typesAfter, onPiece, packetsFrom, packets, ranOut, onStep, stepAt, judgePackets, checkOf, firstOf, orNotThere, ifChecked, seekOf}
+use Rattle.stream.specs.Stream.{Packets, runsOut, closed, stops, typesAfter, onPiece, packetsFrom, packets, ranOut, onStep, typeFor, stepAt, judgePackets, checkOf, firstOf, orNotThere, ifChecked, seekOf}
 use Rattle.stream.specs.Lacking.{CheckRefuses, SeekRefuses, bytesOf, StreamLacking, StreamOpens}
 use Rattle.stream.specs.declared.CheckAnswer.{CheckAnswer}
 use Rattle.stream.specs.declared.CheckAnswer.the-variants as check
@@ -94,10 +94,10 @@ module _ (s t : List ℕ) (r : Refusal) (five : r .number ≡ 5) where
     on-step : at < length s → (x : Piece) → pieceAt s at first ≡ piece.Whole x → (a : Step) → stepAt (length s) p (record { at = at; piece = x; types = typesAfter s at x types }) ≡ a
         → onStep (λ q. judged (length s) q (behind x)) a ≡ check.Refused r
         → Comes s t r at (inFront (record { at = at; piece = x; types = typesAfter s at x types }) (behind x)) (judged (length (s ++ t)) p (packetsFrom (s ++ t) g first types at))
-    on-step l x w (step.Refused q) k e = not-step r five p x at (getD (typesAfter s at x types) (x .track) 0) (ltb (at + x .len) (length s)) (k ∙ ap step.Refused cc)
+    on-step l x w (step.Refused q) k e = not-step r five p x at (typeFor (typesAfter s at x types) (x .track)) (ltb (at + x .len) (length s)) (k ∙ ap step.Refused cc)
     on-step l x w (step.Ended n) k e = absurd (let z : _≡_ {A = ℕ} 0 1 = cc in omega arith)
     on-step l x w (step.Next q) k e =
-        let n = step-next p x at (getD (typesAfter s at x types) (x .track) 0) (ltb (at + x .len) (length s)) q k in
+        let n = step-next p x at (typeFor (typesAfter s at x types) (x .track)) (ltb (at + x .len) (length s)) q k in
         let b = told s at first x w in
         rw (n .0)
         (later at first types p g x q h l w k (packetsFrom s f false (typesAfter s at x types) (at + x .len))
@@ -180,7 +180,7 @@ module _ (s t : List ℕ) (r : Refusal) (five : r .number ≡ 5) where
         on-step : (x : Piece) (types : List ℕ) (b : Bool) (a : Step) → stepAt (length (s ++ t)) (c .progress) (record { at = r .place; piece = x; types = types }) ≡ a
             → onStep (λ p. judged (length (s ++ t)) p (pick b (none closed) (none runsOut))) a ≡ check.Refused q → ⊥
         on-step x types b (step.Refused z) k g =
-            not-step q five-again (c .progress) x (r .place) (getD types (x .track) 0) (ltb (r .place + x .len) (length (s ++ t))) (k ∙ ap step.Refused cc)
+            not-step q five-again (c .progress) x (r .place) (typeFor types (x .track)) (ltb (r .place + x .len) (length (s ++ t))) (k ∙ ap step.Refused cc)
         on-step x types b (step.Ended n) k g = let z : _≡_ {A = ℕ} 0 1 = cc in omega arith
         on-step x types b (step.Next p) k g = ended b p g
 

@@ -25,7 +25,7 @@ use Rattle.order.specs.declared.Progress.{Progress}
 use Rattle.order.specs.declared.Step.{Step}
 use Rattle.order.specs.declared.Step.the-variants as step
 use Rattle.order.proofs.Numbers.{OfStep, step-numbers}
-use Rattle.stream.specs.Stream.{Placed, End, closed, runsOut, stops, typesAfter, onPiece, packetsFrom, packets, ranOut, onStep, stepAt, judgePackets, checkOf}
+use Rattle.stream.specs.Stream.{Placed, End, closed, runsOut, stops, typesAfter, onPiece, packetsFrom, packets, ranOut, onStep, typeFor, stepAt, judgePackets, checkOf}
 use Rattle.stream.specs.WrongForm.{CheckNumber, StreamWrongForm, MapThere, FirstMap}
 use Rattle.stream.specs.declared.CheckAnswer.the-variants as check
 use Rattle.stream.specs.Lacking.{CheckRefuses, bytesOf}
@@ -48,7 +48,7 @@ stops-there r k n p (x ∷ xs) e h = go (stepAt n p x) refl (λ q. stops-there r
     go (step.Ended m) f later h = absurd (let z : _≡_ {A = ℕ} 0 1 = cc in omega arith)
     go (step.Refused q) f later h =
         let z : q ≡ r = cc in
-        let b = subst OfStep f (step-numbers p (x .piece) (x .at) (getD (x .types) (x .piece .track) 0) (ltb (x .at + x .piece .len) n)) in
+        let b = subst OfStep f (step-numbers p (x .piece) (x .at) (typeFor (x .types) (x .piece .track)) (ltb (x .at + x .piece .len) n)) in
         absurd (let m : q .number ≡ 29 = ap (λ (y : Refusal). y .number) z ∙ k in omega (arith, b .1))
 
 -- the packet that they stop at stands behind those that passed

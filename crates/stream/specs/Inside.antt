@@ -16,8 +16,8 @@ abbrev pub orFirst : Spot → Spot → Spot
 orFirst (spot.At o) later = spot.At o
 orFirst spot.Nothing later = later
 
-abbrev pub firstHere : ℕ → ℕ → Piece → ℕ → Spot
-firstHere track field x at = pick (carriesPiece track field x) (spot.At at) spot.Nothing
+abbrev pub firstHere : ℕ → ℕ → ℕ → Piece → ℕ → Spot
+firstHere track field byte x at = pick (carriesPiece track field byte x) (spot.At at) spot.Nothing
 
 abbrev pub collect : CheckAnswer → Spot → Run
 collect (check.Packets n) first = run.Passed (record { count = n; first = first })

@@ -39,28 +39,33 @@ pub enum Run {
     Refused(Refusal),
 }
 
-// Whether a packet carries a field of a track: its type is known, its ID is the track's and its number is the field's. Most packets have another number.
-fn carries(x: Piece, track: u64, field: u64) -> bool
-    ensures { λ r. ⌜ r ≡ carriesPiece track field x ⌝ }
+// Whether a packet carries a field of a track, by the type byte of its ID: its type is known, its ID is the track's, and its number is the field's or, where it carries two, the one below.
+// Most packets have another number: halves are tested first, as both fields of a packet have one half.
+fn carries(x: Piece, listed: u8, track: u64, field: u64) -> bool
+    ensures { λ r. ⌜ r ≡ carriesPiece track field listed x ⌝ }
 {
     let media_type = x.media_type;
+    let number = x.field as u64;
     if x.packet_type != packet::MEDIA {
         return false;
     }
-    if x.field as u64 != field {
+    if number / 2 != field / 2 {
         return false;
     }
     if x.track as u64 != track {
         return false;
     }
-    media_type::is_known(media_type)
+    if field::is_field(field::carries_two(listed, number), number, field) {
+        return media_type::is_known(media_type);
+    }
+    false
 }
 
 // The first carrier so far, with one packet more.
-fn first_with(first: Spot, x: Piece, at: usize, track: u64, field: u64) -> Spot
-    ensures { λ r. ⌜ r ≡ orFirst first (firstHere track field x at) ⌝ }
+fn first_with(first: Spot, x: Piece, at: usize, listed: u8, track: u64, field: u64) -> Spot
+    ensures { λ r. ⌜ r ≡ orFirst first (firstHere track field listed x at) ⌝ }
 {
-    if carries(x, track, field) {
+    if carries(x, listed, track, field) {
         match first {
             Spot::At(o) => {
                 return Spot::At(o);
@@ -106,8 +111,8 @@ fn one_pass(s: &[u8], track: u64, field: u64) -> Run
                 }
                 let k = number::wide(x.track);
                 let listed = types.media_types[k];
-                first = first_with(first, x, at, track, field);
-                match order::take_step(p, x, at, listed, e < s.len()) {
+                first = first_with(first, x, at, listed, track, field);
+                match order::take_step(p, x, at, field::type_alone(listed), e < s.len()) {
                     Step::Refused(r) => {
                         return Run::Refused(r);
                     }

@@ -5,6 +5,7 @@ use Rattle.book.proofs.lookup.Reads as reads
 use Rattle.book.proofs.lookup.Lts as lts
 use Rattle.book.proofs.bad_book.Reads as bad-book-reads
 use Rattle.book.proofs.is_sound.Reads as is-sound-reads
+use Rattle.book.proofs.is_wanted.Reads as is-wanted-reads
 use Rattle.book.proofs.offset_at.Reads as offset-at-reads
 use Rattle.book.proofs.rest.Reads as rest-reads
 use Rattle.book.proofs.rises.Reads as rises-reads
@@ -13,6 +14,7 @@ use Rattle.number.proofs.le4.Reads as le4-reads
 use Rattle.plate.proofs.refuse.Reads as refuse-reads
 use borrow.Author.Needs.{needs}
 use native.Mathlib.Omega.{arith}
+use borrow.Author.Needs.{needs}
 use native.Mathlib.Omega.{arith}
 use Prim.Native.Nat.{_+_, _*_, _/_, _≤_, _<_, _-_, _^_}
 use mathlib.Core.Path.{_≡_, refl, sym, _∙_}
@@ -20,7 +22,7 @@ use lib.ListN.{length}
 use Rattle.plate.proofs.Tests.{off, on}
 use Rattle.number.proofs.Laws.{le-lt}
 use Rattle.book.specs.Book.{lookupOf}
-use Rattle.book.proofs.Laws.{answerFrom, begin, none-at-end, is-bad, may-stand, on-end, other-field, other-track, on-found}
+use Rattle.book.proofs.Laws.{answerFrom, begin, none-at-end, is-bad, may-stand, type-sound, on-end, on-next, on-found}
 
 abbrev Inv-loop : tie.InvT-loop
 Inv-loop book track field records n₀ last₀ n last = (records ≡ length book / 16) × (n ≤ records) × (lookupOf book track field ≡ answerFrom book track field n last)
@@ -57,7 +59,7 @@ returns c =
     let l = c .before .before .before .before .before .before .before .loop in
     let s = c .before .before .before .before .before .before .before .before .before .args .book .now in
     let e = off (c .before .before .is-sound .result) (c .before .if1 .taken) in
-    rw (l .inv .2) (c .bad-book .ensures ∙ is-bad s (c .before .before .before .before .before .before .before .before .shared-slice-known .given) (l .n) (l .last) (omega arith) _ (rw (← c .before .before .before .le42 .ensures, ← c .before .before .is-sound .ensures, e)))
+    rw (l .inv .2) (c .bad-book .ensures ∙ is-bad s (c .before .before .before .before .before .before .before .before .shared-slice-known .given) (l .n) (l .last) (omega arith) _ (rw (← c .before .before .before .le42 .ensures, ← c .before .before .before .before .before .le4 .ensures, ← c .before .before .is-sound .ensures, e)))
 
 rises-requires : tie.Need-rises-requires Inv-loop μ-loop
 rises-requires c κs = search needs
@@ -71,55 +73,40 @@ returns-2 c =
     let s = c .before .before .before .before .before .before .before .before .before .before .before .args .book .now in
     let e = on (c .before .before .before .before .is-sound .result) (c .before .before .before .if1 .left) in
     let f = off (c .before .before .rises .result) (c .before .if2 .taken) in
-    rw (l .inv .2) (c .bad-book2 .ensures ∙ is-bad s (c .before .before .before .before .before .before .before .before .before .before .shared-slice-known .given) (l .n) (l .last) (omega arith) _ (rw (← c .before .before .before .before .before .le42 .ensures, ← c .before .before .before .before .is-sound .ensures, e, ← c .before .before .before .before .before .before .offset-at .ensures, ← c .before .before .rises .ensures, f)))
+    rw (l .inv .2) (c .bad-book2 .ensures ∙ is-bad s (c .before .before .before .before .before .before .before .before .before .before .shared-slice-known .given) (l .n) (l .last) (omega arith) _ (rw (← c .before .before .before .before .before .le42 .ensures, ← c .before .before .before .before .before .before .before .le4 .ensures, ← c .before .before .before .before .is-sound .ensures, e, ← c .before .before .before .before .before .before .offset-at .ensures, ← c .before .before .rises .ensures, f)))
 
 add-n : tie.Need-add-n Inv-loop μ-loop
 add-n c = search needs
 
-add-if4 : tie.Need-add-if4 Inv-loop μ-loop
-add-if4 c = search needs
-
-shared-slice-read-if4 : tie.Need-shared-slice-read-if4 Inv-loop μ-loop
-shared-slice-read-if4 c = search needs
-
-cast-if4 : tie.Need-cast-if4 Inv-loop μ-loop
-cast-if4 c = omega (arith, c .before .before .before .before .before .before .before .before .before .before .before .shared-slice-known .given (c .before .before .before .before .before .before .before .before .before .before .loop .n * 16 + 2))
+is-wanted-requires : tie.Need-is-wanted-requires Inv-loop μ-loop
+is-wanted-requires c κs =
+    let l = c .before .before .before .before .before .before .before .before .loop in
+    let p = rw (c .before .before .before .before .le42 .ensures) at (sym (c .before .before .before .is-sound .ensures) ∙ on (c .before .before .before .is-sound .result) (c .before .before .if1 .left)) in
+    (omega arith, c .before .before .before .before .before .before .le4 .ensures, type-sound _ (c .before .before .before .before .before .before .before .before .before .shared-slice-known .given) (l .n * 16) (c .before .before .before .before .before .before .le4 .result) p)
 
 rest-requires : tie.Need-rest-requires Inv-loop μ-loop
 rest-requires c κs = search needs
 
 returns-3 : tie.Need-returns-3 Inv-loop μ-loop
 returns-3 c =
-    let l = c .before .before .before .before .before .before .before .before .before .before .before .before .loop in
-    let s = c .before .before .before .before .before .before .before .before .before .before .before .before .before .before .args .book .now in
-    let p = rw (c .before .before .before .before .before .before .before .before .le42 .ensures) at (sym (c .before .before .before .before .before .before .before .is-sound .ensures) ∙ on (c .before .before .before .before .before .before .before .is-sound .result) (c .before .before .before .before .before .before .if1 .left)) in
-    let q = rw (c .before .before .before .before .before .before .before .before .before .offset-at .ensures) at (sym (c .before .before .before .before .before .rises .ensures) ∙ on (c .before .before .before .before .before .rises .result) (c .before .before .before .before .if2 .left)) in
-    let f = may-stand s (c .before .before .before .before .before .before .before .before .before .before .before .before .before .shared-slice-known .given) (l .n) (l .last) (omega arith) p q in
-    rw (l .inv .2) (c .rest .ensures ∙ rw (c .before .before .before .before .before .before .before .before .before .offset-at .ensures) (on-found s _ _ (l .n) (l .last) (omega arith) f (sym (c .before .before .before .before .before .before .before .before .before .before .le4 .ensures) ∙ c .before .before .before .if3 .taken) (c .before .if4 .taken)))
+    let l = c .before .before .before .before .before .before .before .before .before .before .before .loop in
+    let s = c .before .before .before .before .before .before .before .before .before .before .before .before .before .args .book .now in
+    let p = rw (c .before .before .before .before .before .before .before .le42 .ensures, c .before .before .before .before .before .before .before .before .before .le4 .ensures) at (sym (c .before .before .before .before .before .before .is-sound .ensures) ∙ on (c .before .before .before .before .before .before .is-sound .result) (c .before .before .before .before .before .if1 .left)) in
+    let q = rw (c .before .before .before .before .before .before .before .before .offset-at .ensures) at (sym (c .before .before .before .before .rises .ensures) ∙ on (c .before .before .before .before .rises .result) (c .before .before .before .if2 .left)) in
+    let f = may-stand s (c .before .before .before .before .before .before .before .before .before .before .before .before .shared-slice-known .given) (l .n) (l .last) (omega arith) p q in
+    rw (l .inv .2) (c .rest .ensures ∙ rw (c .before .before .before .before .before .before .before .before .offset-at .ensures) (on-found s _ _ (l .n) (l .last) (omega arith) f (sym (c .before .before .is-wanted .ensures) ∙ c .before .if3 .taken)))
 
 loop-less : tie.Need-loop-less Inv-loop μ-loop
 loop-less c = search needs
 
 loop-again : tie.Need-loop-again Inv-loop μ-loop
 loop-again c =
-    let l = c .before .before .before .before .before .before .before .before .before .before .before .loop in
-    let s = c .before .before .before .before .before .before .before .before .before .before .before .before .before .args .book .now in
-    let p = rw (c .before .before .before .before .before .before .before .le42 .ensures) at (sym (c .before .before .before .before .before .before .is-sound .ensures) ∙ on (c .before .before .before .before .before .before .is-sound .result) (c .before .before .before .before .before .if1 .left)) in
-    let q = rw (c .before .before .before .before .before .before .before .before .offset-at .ensures) at (sym (c .before .before .before .before .rises .ensures) ∙ on (c .before .before .before .before .rises .result) (c .before .before .before .if2 .left)) in
-    let f = may-stand s (c .before .before .before .before .before .before .before .before .before .before .before .before .shared-slice-known .given) (l .n) (l .last) (omega arith) p q in
-    (refl, omega arith, l .inv .2 ∙ rw (c .before .before .before .before .before .before .before .before .offset-at .ensures) (other-track s _ _ (l .n) (l .last) (omega arith) f (c .if4 .left)))
-
-loop-less-2 : tie.Need-loop-less-2 Inv-loop μ-loop
-loop-less-2 c = search needs
-
-loop-again-2 : tie.Need-loop-again-2 Inv-loop μ-loop
-loop-again-2 c =
-    let l = c .before .before .before .before .before .before .before .before .before .loop in
-    let s = c .before .before .before .before .before .before .before .before .before .before .before .args .book .now in
-    let p = rw (c .before .before .before .before .before .le42 .ensures) at (sym (c .before .before .before .before .is-sound .ensures) ∙ on (c .before .before .before .before .is-sound .result) (c .before .before .before .if1 .left)) in
-    let q = rw (c .before .before .before .before .before .before .offset-at .ensures) at (sym (c .before .before .rises .ensures) ∙ on (c .before .before .rises .result) (c .before .if2 .left)) in
-    let f = may-stand s (c .before .before .before .before .before .before .before .before .before .before .shared-slice-known .given) (l .n) (l .last) (omega arith) p q in
-    (refl, omega arith, l .inv .2 ∙ rw (c .before .before .before .before .before .before .offset-at .ensures) (other-field s _ _ (l .n) (l .last) (omega arith) f (λ z. c .if3 .left (c .before .before .before .before .before .before .before .le4 .ensures ∙ z))))
+    let l = c .before .before .before .before .before .before .before .before .before .before .loop in
+    let s = c .before .before .before .before .before .before .before .before .before .before .before .before .args .book .now in
+    let p = rw (c .before .before .before .before .before .before .le42 .ensures, c .before .before .before .before .before .before .before .before .le4 .ensures) at (sym (c .before .before .before .before .before .is-sound .ensures) ∙ on (c .before .before .before .before .before .is-sound .result) (c .before .before .before .before .if1 .left)) in
+    let q = rw (c .before .before .before .before .before .before .before .offset-at .ensures) at (sym (c .before .before .before .rises .ensures) ∙ on (c .before .before .before .rises .result) (c .before .before .if2 .left)) in
+    let f = may-stand s (c .before .before .before .before .before .before .before .before .before .before .before .shared-slice-known .given) (l .n) (l .last) (omega arith) p q in
+    (refl, omega arith, l .inv .2 ∙ rw (c .before .before .before .before .before .before .before .offset-at .ensures) (on-next s _ _ (l .n) (l .last) (omega arith) f (sym (c .before .is-wanted .ensures) ∙ c .if3 .left)))
 
 refuse-requires : tie.Need-refuse-requires Inv-loop μ-loop
 refuse-requires c κs = search needs
@@ -152,15 +139,11 @@ lookup-spec =
     bad-book-requires-2
     returns-2
     add-n
-    add-if4
-    shared-slice-read-if4
-    cast-if4
+    is-wanted-requires
     rest-requires
     returns-3
     loop-less
     loop-again
-    loop-less-2
-    loop-again-2
     refuse-requires
     unless-torn-requires
     returns-4)

@@ -11,6 +11,7 @@ use Rattle.book.proofs.unless_torn.Reads as unless-torn-reads
 use Rattle.number.proofs.le4.Reads as le4-reads
 use borrow.Author.Needs.{needs}
 use native.Mathlib.Omega.{arith}
+use borrow.Author.Needs.{needs}
 use native.Mathlib.Omega.{arith}
 use Prim.Native.Nat.{_+_, _*_, _/_, _≤_, _<_, _-_, _^_}
 use mathlib.Core.Path.{_≡_, refl, sym, _∙_}
@@ -33,24 +34,30 @@ loop-holds c = (refl, omega arith, refl)
 mul-at : tie.Need-mul-at Inv-loop μ-loop
 mul-at c = search needs
 
-offset-at-requires : tie.Need-offset-at-requires Inv-loop μ-loop
-offset-at-requires c κs = search needs
+add-le4 : tie.Need-add-le4 Inv-loop μ-loop
+add-le4 c = search needs
 
 le4-requires : tie.Need-le4-requires Inv-loop μ-loop
 le4-requires c κs = search needs
 
+offset-at-requires : tie.Need-offset-at-requires Inv-loop μ-loop
+offset-at-requires c κs = search needs
+
+le4-requires-2 : tie.Need-le4-requires-2 Inv-loop μ-loop
+le4-requires-2 c κs = search needs
+
 is-sound-requires : tie.Need-is-sound-requires Inv-loop μ-loop
-is-sound-requires c κs = rw (c .le4 .ensures) (le-lt _ (c .before .before .before .before .shared-slice-known .given) (c .before .before .before .loop .n * 16) 4)
+is-sound-requires c κs = rw (c .le42 .ensures) (le-lt _ (c .before .before .before .before .before .shared-slice-known .given) (c .before .before .before .before .loop .n * 16) 4)
 
 bad-book-requires : tie.Need-bad-book-requires Inv-loop μ-loop
 bad-book-requires c κs = search needs
 
 returns : tie.Need-returns Inv-loop μ-loop
 returns c =
-    let l = c .before .before .before .before .before .before .loop in
-    let s = c .before .before .before .before .before .before .before .before .args .book .now in
+    let l = c .before .before .before .before .before .before .before .loop in
+    let s = c .before .before .before .before .before .before .before .before .before .args .book .now in
     let e = off (c .before .before .is-sound .result) (c .before .if1 .taken) in
-    rw (l .inv .2) (c .bad-book .ensures ∙ is-bad s (c .before .before .before .before .before .before .before .shared-slice-known .given) (l .n) (l .last) (omega arith) _ (rw (← c .before .before .before .le4 .ensures, ← c .before .before .is-sound .ensures, e)))
+    rw (l .inv .2) (c .bad-book .ensures ∙ is-bad s (c .before .before .before .before .before .before .before .before .shared-slice-known .given) (l .n) (l .last) (omega arith) _ (rw (← c .before .before .before .le42 .ensures, ← c .before .before .before .before .before .le4 .ensures, ← c .before .before .is-sound .ensures, e)))
 
 rises-requires : tie.Need-rises-requires Inv-loop μ-loop
 rises-requires c κs = search needs
@@ -60,11 +67,11 @@ bad-book-requires-2 c κs = search needs
 
 returns-2 : tie.Need-returns-2 Inv-loop μ-loop
 returns-2 c =
-    let l = c .before .before .before .before .before .before .before .before .loop in
-    let s = c .before .before .before .before .before .before .before .before .before .before .args .book .now in
+    let l = c .before .before .before .before .before .before .before .before .before .loop in
+    let s = c .before .before .before .before .before .before .before .before .before .before .before .args .book .now in
     let e = on (c .before .before .before .before .is-sound .result) (c .before .before .before .if1 .left) in
     let f = off (c .before .before .rises .result) (c .before .if2 .taken) in
-    rw (l .inv .2) (c .bad-book2 .ensures ∙ is-bad s (c .before .before .before .before .before .before .before .before .before .shared-slice-known .given) (l .n) (l .last) (omega arith) _ (rw (← c .before .before .before .before .before .le4 .ensures, ← c .before .before .before .before .is-sound .ensures, e, ← c .before .before .before .before .before .before .offset-at .ensures, ← c .before .before .rises .ensures, f)))
+    rw (l .inv .2) (c .bad-book2 .ensures ∙ is-bad s (c .before .before .before .before .before .before .before .before .before .before .shared-slice-known .given) (l .n) (l .last) (omega arith) _ (rw (← c .before .before .before .before .before .le42 .ensures, ← c .before .before .before .before .before .before .before .le4 .ensures, ← c .before .before .before .before .is-sound .ensures, e, ← c .before .before .before .before .before .before .offset-at .ensures, ← c .before .before .rises .ensures, f)))
 
 add-n : tie.Need-add-n Inv-loop μ-loop
 add-n c = search needs
@@ -74,11 +81,11 @@ loop-less c = search needs
 
 loop-again : tie.Need-loop-again Inv-loop μ-loop
 loop-again c =
-    let l = c .before .before .before .before .before .before .before .loop in
-    let s = c .before .before .before .before .before .before .before .before .before .args .book .now in
-    let p = rw (c .before .before .before .before .le4 .ensures) at (sym (c .before .before .before .is-sound .ensures) ∙ on _ (c .before .before .if1 .left)) in
-    let q = rw (c .before .before .before .before .before .offset-at .ensures) at (sym (c .before .rises .ensures) ∙ on _ (c .if2 .left)) in
-    (refl, omega arith, l .inv .2 ∙ rw (c .before .before .before .before .before .offset-at .ensures) (next s (l .n) (l .last) (omega arith) (may-stand s (c .before .before .before .before .before .before .before .before .shared-slice-known .given) (l .n) (l .last) (omega arith) p q)))
+    let l = c .before .before .before .before .before .before .before .before .loop in
+    let s = c .before .before .before .before .before .before .before .before .before .before .args .book .now in
+    let p = rw (c .before .before .before .before .le42 .ensures, c .before .before .before .before .before .before .le4 .ensures) at (sym (c .before .before .before .is-sound .ensures) ∙ on (c .before .before .before .is-sound .result) (c .before .before .if1 .left)) in
+    let q = rw (c .before .before .before .before .before .offset-at .ensures) at (sym (c .before .rises .ensures) ∙ on (c .before .rises .result) (c .if2 .left)) in
+    (refl, omega arith, l .inv .2 ∙ rw (c .before .before .before .before .before .offset-at .ensures) (next s (l .n) (l .last) (omega arith) (may-stand s (c .before .before .before .before .before .before .before .before .before .shared-slice-known .given) (l .n) (l .last) (omega arith) p q)))
 
 unless-torn-requires : tie.Need-unless-torn-requires Inv-loop μ-loop
 unless-torn-requires c κs = search needs
@@ -94,8 +101,10 @@ rest-spec =
     μ-loop
     loop-holds
     mul-at
-    offset-at-requires
+    add-le4
     le4-requires
+    offset-at-requires
+    le4-requires-2
     is-sound-requires
     bad-book-requires
     returns

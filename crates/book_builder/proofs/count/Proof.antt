@@ -7,6 +7,7 @@ use Rattle.book_builder.proofs.records_of.Reads as records-of-reads
 use Rattle.piece.proofs.seen_at.Reads as seen-at-reads
 use borrow.Author.Needs.{needs}
 use native.Mathlib.Omega.{arith}
+use borrow.Author.Needs.{needs}
 use native.Mathlib.Omega.{arith}
 use Prim.Native.Nat.{_≤_, _-_}
 use mathlib.Core.Path.{ap}
@@ -24,29 +25,29 @@ loop-holds : tie.Need-loop-holds Inv-loop μ-loop
 loop-holds c = (omega arith, omega arith, count-begin _ (c .before .pre))
 
 seen-at-requires : tie.Need-seen-at-requires Inv-loop μ-loop
-seen-at-requires c κs = can-see _ _ _ (c .before .loop .inv .2 .left) (c .loop-test .taken)
+seen-at-requires c κs = can-see _ _ _ _ (c .before .loop .inv .2 .left) (c .loop-test .taken)
 
 add-e : tie.Need-add-e Inv-loop μ-loop
-add-e c = let l = c .before .before .before .loop in let w = is-told _ _ _ (l .inv .2 .left) (c .before .before .loop-test .taken) in omega (arith, w .cut .within, ap (λ (y : Piece). y .len) (c .before .seen-at .ensures))
+add-e c = let l = c .before .before .before .loop in let w = is-told _ _ _ _ (l .inv .2 .left) (c .before .before .loop-test .taken) in omega (arith, w .cut .within, ap (λ (y : Piece). y .len) (c .before .seen-at .ensures))
 
 records-of-requires : tie.Need-records-of-requires Inv-loop μ-loop
 records-of-requires c κs = search needs
 
 add-n : tie.Need-add-n Inv-loop μ-loop
-add-n c = let l = c .before .before .before .before .loop in omega (arith, c .records-of .ensures, one-here (l .at) (c .before .before .seen-at .result))
+add-n c = omega (arith, c .records-of .ensures, one-here (c .before .before .seen-at .result))
 
 loop-less : tie.Need-loop-less Inv-loop μ-loop
-loop-less c = let l = c .before .before .before .before .loop in let w = is-told _ _ _ (l .inv .2 .left) (c .before .before .before .loop-test .taken) in omega (arith, w .cut .within, w .cut .least, ap (λ (y : Piece). y .len) (c .before .before .seen-at .ensures))
+loop-less c = let l = c .before .before .before .before .loop in let w = is-told _ _ _ _ (l .inv .2 .left) (c .before .before .before .loop-test .taken) in omega (arith, w .cut .within, w .cut .least, ap (λ (y : Piece). y .len) (c .before .before .seen-at .ensures))
 
 loop-again : tie.Need-loop-again Inv-loop μ-loop
 loop-again c =
     let l = c .before .before .before .before .loop in
     let h = c .before .before .before .loop-test .taken in
-    let w = is-told _ _ _ (l .inv .2 .left) h in
+    let w = is-told _ _ _ _ (l .inv .2 .left) h in
     let e = c .before .before .seen-at .ensures in
     let m = ap (λ (y : Piece). y .len) e in (
       omega (arith, w .cut .within, m),
-      omega (arith, w .cut .least, m, c .records-of .ensures, one-here (l .at) (c .before .before .seen-at .result)),
+      omega (arith, w .cut .least, m, c .records-of .ensures, one-here (c .before .before .seen-at .result)),
       rw m (count-next _ (l .at) (l .n) (l .inv .2) h _ (rw e at (c .records-of .ensures))),
     )
 

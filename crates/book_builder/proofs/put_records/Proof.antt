@@ -2,46 +2,62 @@
 use borrow.Author.Needs.{needs}
 use Rattle.book_builder.proofs.put_records.Statement.{statement}
 use Rattle.book_builder.proofs.put_records.Tie as tie
+use Rattle.book_builder.proofs.put_records.Reads as reads
+use Rattle.book_builder.proofs.put_records.Lts as lts
+use Rattle.book_builder.proofs.is_recorded.Reads as is-recorded-reads
+use Rattle.book_builder.proofs.marked_type.Reads as marked-type-reads
+use Rattle.book_builder.proofs.put_record.Reads as put-record-reads
+use borrow.Author.Needs.{needs}
+use native.Mathlib.Omega.{arith}
 use native.Mathlib.Omega.{arith}
 use mathlib.Core.Path.{refl, sym, _∙_, ap}
+use mathlib.Core.List.{List}
 use lib.ListN.{length}
 use Rattle.book.specs.Book.{bookBytes}
 use Rattle.book.specs.declared.Entry.{Entry}
-use mathlib.Core.List.{List}
 use Rattle.book_builder.proofs.Laws.{here-one, here-none, bytes-one}
+use Rattle.book_builder.proofs.Sound.{known-of}
 
 is-recorded-requires : tie.Need-is-recorded-requires
 is-recorded-requires c κs = search needs
 
-cast-t9 : tie.Need-cast-t9
-cast-t9 c = search needs
+marked-type-requires : tie.Need-marked-type-requires
+marked-type-requires c κs = known-of _ (sym (c .before .is-recorded .ensures) ∙ c .if1 .taken)
+
+cast-t11 : tie.Need-cast-t11
+cast-t11 c = search needs
 
 put-record-requires : tie.Need-put-record-requires
 put-record-requires c κs =
-    let h = ap (λ (es : List Entry). length es) (here-one (c .before .before .before .before .before .args .at) (c .before .before .before .before .before .args .x) (sym (c .before .before .before .is-recorded .ensures) ∙ c .before .before .if1 .taken)) in
+    let a = c .before .before .before .before .before .before .args in
+    let h = ap (λ (es : List Entry). length es) (here-one (a .at) (a .listed) (a .x) (sym (c .before .before .before .before .is-recorded .ensures) ∙ c .before .before .before .if1 .taken)) in
     omega (arith, h)
 
 add-result : tie.Need-add-result
 add-result c =
-    let h = ap (λ (es : List Entry). length es) (here-one (c .before .before .before .before .before .before .before .before .args .at) (c .before .before .before .before .before .before .before .before .args .x) (sym (c .before .before .before .before .before .before .is-recorded .ensures) ∙ c .before .before .before .before .before .if1 .taken)) in
+    let a = c .before .before .before .before .before .before .before .before .before .args in
+    let h = ap (λ (es : List Entry). length es) (here-one (a .at) (a .listed) (a .x) (sym (c .before .before .before .before .before .before .before .is-recorded .ensures) ∙ c .before .before .before .before .before .before .if1 .taken)) in
     omega (arith, h)
 
 same-length : tie.Need-same-length
 same-length c = search needs
 
 returns : tie.Need-returns
-returns c = rw (here-one (c .before .before .before .before .before .before .before .before .args .at) (c .before .before .before .before .before .before .before .before .args .x) (sym (c .before .before .before .before .before .before .is-recorded .ensures) ∙ c .before .before .before .before .before .if1 .taken), bytes-one) (omega arith, c .before .before .put-record .ensures)
+returns c =
+    let a = c .before .before .before .before .before .before .before .before .before .args in
+    rw (here-one (a .at) (a .listed) (a .x) (sym (c .before .before .before .before .before .before .before .is-recorded .ensures) ∙ c .before .before .before .before .before .before .if1 .taken), bytes-one) (omega arith, rw (c .before .before .before .before .before .marked-type .ensures) at (c .before .before .put-record .ensures))
 
 returns-2 : tie.Need-returns-2
 unfolding bookBytes
-returns-2 c = rw (here-none (c .before .before .before .args .at) (c .before .before .before .args .x) (sym (c .before .is-recorded .ensures) ∙ c .if1 .left)) (omega arith, refl)
+returns-2 c = let a = c .before .before .before .args in rw (here-none (a .at) (a .listed) (a .x) (sym (c .before .is-recorded .ensures) ∙ c .if1 .left)) (omega arith, refl)
 
 pub put-records-spec : {M : Type 1} → statement M
 put-records-spec =
     tie.close
     (tie.spec
     is-recorded-requires
-    cast-t9
+    marked-type-requires
+    cast-t11
     put-record-requires
     add-result
     same-length

@@ -2,17 +2,21 @@
 use borrow.Author.Needs.{needs}
 use Rattle.book_builder.proofs.records_of.Statement.{statement}
 use Rattle.book_builder.proofs.records_of.Tie as tie
+use Rattle.book_builder.proofs.records_of.Reads as reads
+use Rattle.book_builder.proofs.records_of.Lts as lts
+use Rattle.book_builder.proofs.is_recorded.Reads as is-recorded-reads
+use borrow.Author.Needs.{needs}
+use native.Mathlib.Omega.{arith}
 use mathlib.Core.Path.{sym, _∙_}
-use Rattle.book_builder.proofs.Laws.{here-one, here-none}
 
 is-recorded-requires : tie.Need-is-recorded-requires
 is-recorded-requires c κs = search needs
 
 returns : tie.Need-returns
-returns c = rw (here-one (c .before .before .args .at) (c .before .before .args .x) (sym (c .before .is-recorded .ensures) ∙ c .if1 .taken))
+returns c = rw (sym (c .before .is-recorded .ensures) ∙ c .if1 .taken)
 
 returns-2 : tie.Need-returns-2
-returns-2 c = rw (here-none (c .before .before .args .at) (c .before .before .args .x) (sym (c .before .is-recorded .ensures) ∙ c .if1 .left))
+returns-2 c = rw (sym (c .before .is-recorded .ensures) ∙ c .if1 .left)
 
 pub records-of-spec : {M : Type 1} → statement M
 records-of-spec = tie.close (tie.spec is-recorded-requires returns returns-2)

@@ -1,8 +1,15 @@
 -- `map_tracks::types_by_id` meets its contract: the text that the checker prints, with the answers to its needs.
 use Rattle.map_tracks.proofs.types_by_id.Statement.{statement}
 use Rattle.map_tracks.proofs.types_by_id.Tie as tie
+use Rattle.map_tracks.proofs.types_by_id.Reads as reads
+use Rattle.map_tracks.proofs.types_by_id.Lts as lts
+use Rattle.map_tracks.proofs.with_type.Reads as with-type-reads
+use Rattle.number.proofs.be_at.Reads as be-at-reads
 use borrow.Author.Needs.{needs}
 use native.Mathlib.Omega.{arith}
+use borrow.Author.Needs.{needs}
+use native.Mathlib.Omega.{arith}
+use native.Mathlib.Nat.{add-sub-cancel-left}
 use Prim.Native.Nat.{_≤_, _-_}
 use mathlib.Core.Path.{refl, sym, _∙_}
 use lib.ListN.{length, replicate}
@@ -35,6 +42,12 @@ returns-2 : tie.Need-returns-2 Inv-loop μ-loop
 unfolding typesOf
 returns-2 c = sym (on-over _ _ _ _ (c .before .before .before .before .loop .inv .1) (c .before .before .if1 .left) _ (c .before .be-at .ensures) (c .if2 .taken))
 
+add-a : tie.Need-add-a Inv-loop μ-loop
+add-a c = search needs
+
+add-e : tie.Need-add-e Inv-loop μ-loop
+add-e c = search needs
+
 shared-slice-read-with-type : tie.Need-shared-slice-read-with-type Inv-loop μ-loop
 shared-slice-read-with-type c = search needs
 
@@ -44,14 +57,17 @@ add-with-type c = search needs
 shared-slice-read-with-type-2 : tie.Need-shared-slice-read-with-type-2 Inv-loop μ-loop
 shared-slice-read-with-type-2 c = search needs
 
+sub-with-type : tie.Need-sub-with-type Inv-loop μ-loop
+sub-with-type c = search needs
+
+part-with-type-start : tie.Need-part-with-type-start Inv-loop μ-loop
+part-with-type-start c = search needs
+
+part-with-type-end : tie.Need-part-with-type-end Inv-loop μ-loop
+part-with-type-end c = search needs
+
 with-type-requires : tie.Need-with-type-requires Inv-loop μ-loop
 with-type-requires c κs = search needs
-
-add-at : tie.Need-add-at Inv-loop μ-loop
-add-at c = search needs
-
-add-at-2 : tie.Need-add-at-2 Inv-loop μ-loop
-add-at-2 c = search needs
 
 loop-less : tie.Need-loop-less Inv-loop μ-loop
 loop-less c = search needs
@@ -59,7 +75,7 @@ loop-less c = search needs
 loop-again : tie.Need-loop-again Inv-loop μ-loop
 unfolding isListed
 loop-again c =
-    (omega arith, on-track _ _ _ _ (c .before .before .before .before .before .before .before .loop .inv .1) (c .before .before .before .before .before .if1 .left) _ (c .before .before .before .before .be-at .ensures) (c .before .before .before .if2 .left) _ (λ ds. type-turn _ _ ds ∙ rw (← c .with-type .ensures)))
+    (omega arith, on-track _ _ _ _ (c .before .before .before .before .before .before .before .before .loop .inv .1) (c .before .before .before .before .before .before .if1 .left) _ (c .before .before .before .before .before .be-at .ensures) (c .before .before .before .before .if2 .left) _ (λ ds. type-turn _ _ ds ∙ rw (← (rw add-sub-cancel-left at (c .with-type .ensures)))))
 
 returns-3 : tie.Need-returns-3 Inv-loop μ-loop
 unfolding typesOf
@@ -77,12 +93,15 @@ types-by-id-spec =
     add-be-at
     be-at-requires
     returns-2
+    add-a
+    add-e
     shared-slice-read-with-type
     add-with-type
     shared-slice-read-with-type-2
+    sub-with-type
+    part-with-type-start
+    part-with-type-end
     with-type-requires
-    add-at
-    add-at-2
     loop-less
     loop-again
     returns-3)

@@ -2,6 +2,14 @@
 use borrow.Author.Needs.{needs}
 use Rattle.map_tracks.proofs.with_type.Statement.{statement}
 use Rattle.map_tracks.proofs.with_type.Tie as tie
+use Rattle.map_tracks.proofs.with_type.Reads as reads
+use Rattle.map_tracks.proofs.with_type.Lts as lts
+use Rattle.map_answer.proofs.bare.Reads as bare-reads
+use Rattle.map_tracks.proofs.is_listed.Reads as is-listed-reads
+use Rattle.map_tracks.proofs.listed_byte.Reads as listed-byte-reads
+use Rattle.number.proofs.wide.Reads as wide-reads
+use borrow.Author.Needs.{needs}
+use native.Mathlib.Omega.{arith}
 use mathlib.Core.Path.{sym, _∙_}
 
 is-listed-requires : tie.Need-is-listed-requires
@@ -13,14 +21,14 @@ bare-requires c κs = search needs
 wide-requires : tie.Need-wide-requires
 wide-requires c κs = search needs
 
-bare-requires-2 : tie.Need-bare-requires-2
-bare-requires-2 c κs = search needs
+listed-byte-requires : tie.Need-listed-byte-requires
+listed-byte-requires c κs = search needs
 
 element-write-next : tie.Need-element-write-next
 element-write-next c = search needs
 
 returns : tie.Need-returns
-returns c = rw (sym (c .before .before .before .before .is-listed .ensures) ∙ c .before .before .before .if1 .taken, c .before .wide .ensures, c .before .before .bare .ensures, c .bare2 .ensures)
+returns c = rw (sym (c .before .before .before .before .is-listed .ensures) ∙ c .before .before .before .if1 .taken, c .before .wide .ensures, c .before .before .bare .ensures, c .listed-byte .ensures)
 
 returns-2 : tie.Need-returns-2
 returns-2 c = rw (sym (c .before .is-listed .ensures) ∙ c .if1 .left)
@@ -32,7 +40,7 @@ with-type-spec =
     is-listed-requires
     bare-requires
     wide-requires
-    bare-requires-2
+    listed-byte-requires
     element-write-next
     returns
     returns-2)
