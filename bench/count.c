@@ -65,7 +65,7 @@ static void say(u64 word) { printf("%llu ", (unsigned long long)word); }
 
 int main(int argc, char **argv)
 {
-    struct reading r = {0, 0, 0};
+    struct reading r = {0, 0, 0, 0};
     struct map_reading m;
     u64 n, i, sum = 0;
     u8 *s, *book;

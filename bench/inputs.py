@@ -2,6 +2,7 @@
 # What is counted on:
 #   inputs.py stream FILE PACKETS EXTRA   a stream of so many packets, media with so many bytes of data behind the preamble, a map every 99; and FILE.book,
 #                                         its seek book. It prints the number of media packets
+#   inputs.py progressive FILE PACKETS    the same without such bytes, but the track has fields per frame 1, the numbers are even, and the records have the 64
 #   inputs.py map FILE TRACKS             a map of so many tracks
 #   inputs.py bad-map FILE TRACKS         the same, but the last item of the last track has another size
 #   inputs.py cut FILE FROM               the first half of a file's bytes
@@ -25,21 +26,24 @@ def section(value):
 
 # the map of the paper's bench readings: track 1, type 10
 MAP = packet(0xBC, bytes.fromhex('E0FF0006410400000000000F8AC1000B4C03413100' '5004FFFFFFFE'))
+# the same track with fields per frame 1
+PROGRESSIVE = packet(0xBC, bytes.fromhex('E0FF000641040000000000158AC100114C03413100' '5004FFFFFFFE' '520400000001'))
 
 
-def stream(name, packets, extra):
-    out = [MAP, packet(0xFD, b'')]
+def stream(name, packets, extra, progressive):
+    head = PROGRESSIVE if progressive else MAP
+    out = [head, packet(0xFD, b'')]
     at = sum(map(len, out))
     book = []
     since = 1
     while len(out) < packets - 1:
         if since == 98:
-            out.append(MAP)
+            out.append(head)
             since = 0
         else:
-            field = len(book)
+            field = len(book) * (2 if progressive else 1)
             out.append(packet(0xBF, bytes([10, 1]) + struct.pack('>III', field, 0, field) + bytes(2 + extra)))
-            book.append(struct.pack('<2sBBIQ', b'GX', 1, 10, field, at))
+            book.append(struct.pack('<2sBBIQ', b'GX', 1, 10 + (64 if progressive else 0), field, at))
             since += 1
         at += len(out[-1])
     out.append(packet(0xFB, b''))
@@ -81,7 +85,9 @@ def write(name, data):
 def main():
     what, name, rest = sys.argv[1], sys.argv[2], sys.argv[3:]
     if what == 'stream':
-        stream(name, int(rest[0]), int(rest[1]))
+        stream(name, int(rest[0]), int(rest[1]), False)
+    elif what == 'progressive':
+        stream(name, int(rest[0]), 0, True)
     elif what == 'map':
         long_map(name, int(rest[0]), struct.pack('>I', 2))
     elif what == 'bad-map':

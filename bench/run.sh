@@ -70,6 +70,14 @@ row() { # JOB FILE UNITS LABEL
         printf "| %s | %s | %.1f | %.1f | %.1f | %.2f | %.2f | %d |\n", job, label, a / n, b / n, c / n, a / b, a / c, stack }'
 }
 
+# The four lines of a stream and its book.
+rows() { # FILE PACKETS MEDIA LABEL
+    row check "$1" "$2" "$4"
+    row seek "$1" "$2" "$4"
+    row build "$1" "$3" "$4"
+    row lookup "$1.book" "$3" "$4"
+}
+
 # A line of the second table: a refused call.
 refused() { # JOB FILE LABEL
     answer "$1" "$2"
@@ -90,11 +98,11 @@ for shape in "200 0" "2000 0" "20000 0" "20000 1000" "14145 0"; do
     media=$(make stream "$file" "$1" "$2")
     label="$1 packets"
     [ "$2" = 0 ] || label="$label, $2 bytes more in each"
-    row check "$file" "$1" "$label"
-    row seek "$file" "$1" "$label"
-    row build "$file" "$media" "$label"
-    row lookup "$file.book" "$media" "$label"
+    rows "$file" "$1" "$media" "$label"
 done
+file=$out/progressive-14145.gxf
+media=$(make progressive "$file" 14145)
+rows "$file" 14145 "$media" "14145 packets, each of two fields"
 for tracks in 1 16 48; do
     file=$out/map-$tracks.gxf
     make map "$file" "$tracks"

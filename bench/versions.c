@@ -30,6 +30,12 @@ static inline struct reading yes(u64 value)
 /* Media types 3, 4, 7 to 18, 20 to 26. */
 static inline int known(u32 type) { return type < 27 && (0x7F7FF98u >> type & 1); }
 
+/* Added to a media type: in the types by ID of a track with fields per frame 1, in a book of a packet that carries two fields. */
+enum { MARK = 64 };
+
+/* By the type byte of its track, whether a packet of a number carries two fields: it and the one above. */
+static inline int two_fields(u32 listed, u32 number) { return listed >= MARK && number % 2 == 0; }
+
 /* The bits of 4D and 4F among the tags seen; and that of the form which a track of this type may not have: 4D on types 11, 12, 20, 22 and 23, 4F on every
  * other that is listed. */
 enum { FORM_4D = 1 << 0x0D, FORM_4F = 1 << 0x0F };
@@ -61,8 +67,8 @@ static __attribute__((noinline)) u32 form_fault(const u8 *p, u32 at, u32 end, u3
 }
 
 /* The first fault of the items from at to end, or 0; its place. What material items say goes to `says`, if it is there. In a track `wrong` is the form that it
- * may not have, tested at its end. */
-static ALWAYS u32 walk_items(const u8 *p, u32 at, u32 end, int in_track, u32 wrong, u32 *place, struct map_reading *says)
+ * may not have, tested at its end, and the place of its item 52 goes to `fields`. */
+static ALWAYS u32 walk_items(const u8 *p, u32 at, u32 end, int in_track, u32 wrong, u32 *place, u32 *fields, struct map_reading *says)
 {
     u32 seen = 0, from = at;
     while (at < end) {
@@ -78,7 +84,8 @@ static ALWAYS u32 walk_items(const u8 *p, u32 at, u32 end, int in_track, u32 wro
             switch (tag) {
             case 0x4C: case 0x4F: text = 1; break;
             case 0x4D: fixed = 8; break;
-            case 0x4E: case 0x50: case 0x51: case 0x52: fixed = 4; break;
+            case 0x52: *fields = at; /* fall through */
+            case 0x4E: case 0x50: case 0x51: fixed = 4; break;
             }
         } else if (tag == 0x40) {
             text = 1;
@@ -109,14 +116,20 @@ static ALWAYS u32 walk_items(const u8 *p, u32 at, u32 end, int in_track, u32 wro
 }
 
 /* Both stay functions, and the first tests nothing for what it does not keep. */
-static u32 items_fault(const u8 *p, u32 at, u32 end, int in_track, u32 wrong, u32 *place) { return walk_items(p, at, end, in_track, wrong, place, 0); }
+static u32 items_fault(const u8 *p, u32 at, u32 end, int in_track, u32 wrong, u32 *place, u32 *fields)
+{
+    return walk_items(p, at, end, in_track, wrong, place, fields, 0);
+}
 
-static u32 material_fault(const u8 *p, u32 at, u32 end, u32 *place, struct map_reading *says) { return walk_items(p, at, end, 0, 0, place, says); }
+static u32 material_fault(const u8 *p, u32 at, u32 end, u32 *place, struct map_reading *says) { return walk_items(p, at, end, 0, 0, place, 0, says); }
 
-/* The first fault of a map packet, its place counted from the packet's start; by ID the types that it lists, or what it says. */
+/* The type byte of a listed track whose item 52 stands at a place, 0 for none: the mark with fields per frame 1. */
+static inline u8 listed_byte(const u8 *p, u32 type, u32 fields) { return fields != 0 && big32(p + fields + 2) == 1 ? type + MARK : type; }
+
+/* The first fault of a map packet, its place counted from the packet's start; by ID the type bytes of the tracks that it lists, or what it says. */
 static ALWAYS struct reading walk_map(const u8 *p, u32 len, u8 *types, struct map_reading *says)
 {
-    u32 a, b, end, f, place;
+    u32 a, b, end, f, place, fields = 0;
     u64 ids = 0;
     if (types != 0)
         __builtin_memset(types, 0, 64);
@@ -127,7 +140,7 @@ static ALWAYS struct reading walk_map(const u8 *p, u32 len, u8 *types, struct ma
     if (len < 20 || len - 20 < big16(p + 18))
         return no(8, 18);
     a = 20 + big16(p + 18);
-    if ((f = says != 0 ? material_fault(p, 20, a, &place, says) : items_fault(p, 20, a, 0, 0, &place)) != 0)
+    if ((f = says != 0 ? material_fault(p, 20, a, &place, says) : items_fault(p, 20, a, 0, 0, &place, &fields)) != 0)
         return no(f, place);
     if (len - a < 2 || len - a - 2 < big16(p + a))
         return no(8, a);
@@ -143,11 +156,12 @@ static ALWAYS struct reading walk_map(const u8 *p, u32 len, u8 *types, struct ma
             return no(8, b);
         if (ids >> (p[b + 1] - 0xC0) & 1)
             return no(10, b);
-        if ((f = items_fault(p, b + 4, b + 4 + size, 1, wrong_form(p[b] - 0x80), &place)) != 0)
+        fields = 0;
+        if ((f = items_fault(p, b + 4, b + 4 + size, 1, wrong_form(p[b] - 0x80), &place, &fields)) != 0)
             return no(f, place);
         ids |= (u64)1 << (p[b + 1] - 0xC0);
         if (types != 0 && known(p[b] - 0x80))
-            types[p[b + 1] - 0xC0] = p[b] - 0x80;
+            types[p[b + 1] - 0xC0] = listed_byte(p, p[b] - 0x80, fields);
         if (says != 0)
             says->count += known(p[b] - 0x80);
         b += 4 + size;
@@ -156,6 +170,27 @@ static ALWAYS struct reading walk_map(const u8 *p, u32 len, u8 *types, struct ma
 }
 
 static struct reading map_fault(const u8 *p, u32 len, u8 *types) { return walk_map(p, len, types, 0); }
+
+/* Of items that have passed, from at to end, the place of item 52, or 0. */
+static inline u32 fields_item(const u8 *p, u32 at, u32 end)
+{
+    for (; at < end; at += 2 + p[at + 1])
+        if (p[at] == 0x52)
+            return at;
+    return 0;
+}
+
+/* By ID the type bytes of the tracks that a map lists, of one that has passed: it tests nothing again. */
+static void read_types(const u8 *p, u8 *types)
+{
+    u32 at = 20 + big16(p + 18), end = at + 2 + big16(p + at), next;
+    __builtin_memset(types, 0, 64);
+    for (at += 2; at < end; at = next) {
+        next = at + 4 + big16(p + at + 2);
+        if (known(p[at] - 0x80))
+            types[p[at + 1] - 0xC0] = listed_byte(p, p[at] - 0x80, fields_item(p, at + 4, next));
+    }
+}
 
 /* One pass over a stream: its packets, the first that carries a field of a track, its records. */
 struct pass {
@@ -210,10 +245,12 @@ static ALWAYS struct reading run(const u8 *s, u64 n, int seeking, u64 track, u64
         if (kind != MAP && since >= 99)
             return no(20, at);
         if (kind == MEDIA && known(p[16])) {
-            if (types[p[17]] != p[16])
+            u32 listed = types[p[17]], number = big32(p + 18);
+            if (listed % MARK != p[16])
                 return no(22, at);
             records++;
-            if (seeking && !found && p[17] == track && big32(p + 18) == field) {
+            /* both fields of a packet have one half, and most packets have another */
+            if (seeking && number / 2 == field / 2 && p[17] == track && !found && (number == field || two_fields(listed, number))) {
                 found = 1;
                 first = at;
             }
@@ -260,20 +297,22 @@ struct reading c_build(u8 *out, u64 room, const u8 *s, u64 n)
     struct pass p;
     struct reading r = run(s, n, 0, 0, 0, &p);
     u64 at;
-    u8 *to = out;
+    u8 types[64], *to = out;
     if (r.number != 0)
         return r;
     if (room / 16 < p.records)
         return no(13, 0);
     for (at = 0; at < n; at += big32(s + at + 6)) {
         const u8 *x = s + at;
-        if (x[5] == MEDIA && known(x[16])) {
+        if (x[5] == MAP) {
+            read_types(x, types);
+        } else if (x[5] == MEDIA && known(x[16])) {
             u32 field = big32(x + 18);
             int i;
             to[0] = 0x47;
             to[1] = 0x58;
             to[2] = x[17];
-            to[3] = x[16];
+            to[3] = two_fields(types[x[17]], field) ? x[16] + MARK : x[16];
             for (i = 0; i < 4; i++)
                 to[4 + i] = field >> 8 * i;
             for (i = 0; i < 8; i++)
@@ -284,15 +323,19 @@ struct reading c_build(u8 *out, u64 room, const u8 *s, u64 n)
     return yes(p.records);
 }
 
+/* A known type, or one with the mark beside an even number. */
+static inline int good_type(u32 type, u32 number) { return known(type & ~(u32)MARK) && !(type & MARK && number % 2 != 0); }
+
 struct reading c_lookup(const u8 *b, u64 n, u64 track, u64 field)
 {
     u64 i, last = 0, first = 0;
     int found = 0;
     for (i = 0; i < n / 16; i++, b += 16) {
         u64 at = little64(b + 8);
-        if (b[0] != 0x47 || b[1] != 0x58 || b[2] > 63 || !known(b[3]) || (i != 0 && at <= last))
+        u32 number = little32(b + 4);
+        if (b[0] != 0x47 || b[1] != 0x58 || b[2] > 63 || !good_type(b[3], number) || (i != 0 && at <= last))
             return no(23, i);
-        if (!found && b[2] == track && little32(b + 4) == field) {
+        if (number / 2 == field / 2 && b[2] == track && !found && (number == field || b[3] >= MARK)) {
             found = 1;
             first = at;
         }

@@ -87,8 +87,9 @@ struct gxf_packet gxf_header(const uint8_t *s, size_t n, size_t at);
  */
 struct gxf_offset gxf_position(const uint8_t *s, size_t n, size_t at, uint64_t distance);
 
-/* The offset of the first media packet that carries a field of a track, in a whole stream: one of a media type of Table 5 whose ID is the track
- * and whose media field number is the field.
+/* The offset of the first media packet that carries a field of a track, in a whole stream. A packet of a media type of Table 5 whose ID is the
+ * track carries the field that its media field number is; and where the latest map before it gives the track fields per frame 1, one with an even
+ * number also carries the field above. So on a progressive track 301 is answered by a packet of 300, unless one of 301 stands before it.
  * Refusals: first those of the check of the stream (1 to 5, 7 to 12, 14, 15, 17 to 22, 29), with their places in the stream and, of 5, the
  * bytes that its torn packet lacks; then
  *   16 no packet carries it, place 0; so also of a track over 63 or a field over 32 bits

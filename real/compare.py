@@ -210,7 +210,7 @@ def locator(library, told, field, at):
 
 
 def seeks(library, told, read):
-    """A seek of the field in the middle, and of the field after it, which no packet carries."""
+    """A seek of the field in the middle, and of the field after it, which no packet carries: no track of ffmpeg's has fields per frame 1."""
     middle = read.packets[len(read.packets) // 2]
     yield from locator(library, told, middle["dts"], place(middle))
     step = fraction(read.streams[middle["stream_index"]]["time_base"])

@@ -5,6 +5,7 @@
 #![allow(clippy::manual_is_multiple_of)] // `% 4` is how the paper says it
 
 pub mod generate;
+pub mod odd;
 pub mod own;
 pub mod reference;
 pub mod request;

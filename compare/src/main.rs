@@ -225,6 +225,7 @@ fn compare(o: &Options, probe: &Program) -> io::Result<bool> {
             let (case, line) = made(o.seed, index);
             input.extend(case.request.encode());
             table.count(case.kind, &line);
+            table.count_odd(&case.request);
             wanted.push(line + "\n");
         }
         let lines = ask(probe, input)?;
@@ -335,6 +336,7 @@ fn to_files(o: &Options, requests: &str, expected: &str) -> io::Result<bool> {
         asked.write_all(&case.request.encode())?;
         writeln!(told, "{line}")?;
         table.count(case.kind, &line);
+        table.count_odd(&case.request);
     }
     asked.flush()?;
     told.flush()?;

@@ -2,6 +2,7 @@
 //! same answer.
 
 mod aspects;
+mod fields;
 
 use crate::generate::maps::{self, Item, Model, M};
 use crate::generate::{case, packets, streams, writers, Case};
@@ -401,6 +402,7 @@ fn streams_agree(seed: u64, cases: u64) -> Vec<Tally> {
             2 => streams::torn_stream(&mut rng).1,
             3 => streams::wrong_form_stream(&mut rng).1,
             4 => streams::null_name_stream(&mut rng).bytes(),
+            5 => streams::odd_stream(&mut rng).bytes(),
             _ => streams::good(&mut rng).bytes(),
         };
         let mut room = vec![0; 65_536];
@@ -410,7 +412,7 @@ fn streams_agree(seed: u64, cases: u64) -> Vec<Tally> {
             (Ok(count), Ok(records)) => {
                 let lent = &room[..16 * records as usize];
                 for track in [0, 1, 2, 3, 17, 62, 63, 64] {
-                    for field in [0, 1, 2, 3, 4, 5, 0xFFFF_FFFF, 0x1_0000_0000] {
+                    for field in [0, 1, 2, 3, 4, 5, 0xFFFF_FFFE, 0xFFFF_FFFF, 0x1_0000_0000] {
                         let one = stream::seek(&bytes, track, field);
                         let two = book::lookup(lent, track, field);
                         seeks.check(one == two, || format!("stream {index}: {one:?} {two:?}"));
@@ -514,6 +516,7 @@ pub fn run(seed: u64, cases: u64) -> Vec<Tally> {
     all.extend(aspects::agree(seed, cases));
     all.extend(round_trips(seed, part));
     all.extend(streams_agree(seed, part));
+    all.extend(fields::agree(seed, part));
     all.extend(names_agree(seed, part / 10 + 1));
     all.extend(damaged_bench());
     all

@@ -1,7 +1,9 @@
-//! What a run met: cases by kind, accepted, and refused by number; of 5 also how many bytes were lacking; and the aspects of the
-//! records.
+//! What a run met: cases by kind, accepted, and refused by number; of 5 also how many bytes were lacking; the aspects of the records;
+//! and how odd fields were answered.
 
+use crate::odd::{self, Met};
 use crate::reference::plate::{Refusal, PLATE};
+use crate::request::Request;
 use std::collections::{BTreeMap, BTreeSet};
 
 /// How many cases of a kind were accepted, and refused by number.
@@ -21,6 +23,8 @@ pub struct Table {
     lacking: BTreeMap<u64, u64>,
     /// Records by family of types and by aspect.
     aspects: [[u64; 3]; 3],
+    /// Cases by what they met of odd fields.
+    odd: BTreeMap<Met, u64>,
 }
 
 /// The families of media types by which aspects are counted; of the first two every aspect must come up.
@@ -115,6 +119,13 @@ impl Table {
         }
     }
 
+    /// Counts a case by what it met of odd fields.
+    pub fn count_odd(&mut self, request: &Request) {
+        for met in odd::met(request) {
+            *self.odd.entry(met).or_default() += 1;
+        }
+    }
+
     pub fn differs(&mut self, kind: &str) {
         self.rows.entry(kind.to_string()).or_default().differences += 1;
     }
@@ -179,6 +190,21 @@ impl Table {
         missed
     }
 
+    /// What can be met of odd fields, and how many cases did.
+    pub fn odd(&self) -> Vec<(String, u64)> {
+        let cases = |met: &Met| self.odd.get(met).copied().unwrap_or(0);
+        let all = odd::all();
+        all.iter()
+            .map(|met| (format!("{}: {}", met.0, met.1), cases(met)))
+            .collect()
+    }
+
+    /// What no case met of it.
+    pub fn odd_missed(&self) -> Vec<String> {
+        let none = self.odd().into_iter().filter(|(_, cases)| *cases == 0);
+        none.map(|(what, _)| what).collect()
+    }
+
     pub fn print(&self) {
         println!(
             "{:<28} {:>7} {:>9}  refused (number:cases)",
@@ -190,8 +216,13 @@ impl Table {
         Self::line("all", &self.all());
         println!("bytes lacking on 5 (cases): {}", self.figures());
         println!("aspects of records: {}", self.aspects());
+        println!("odd fields (cases):");
+        for (what, cases) in self.odd() {
+            println!("  {what:<65} {cases:>7}");
+        }
         println!("refusals not reached: {}", listed(&self.missed()));
         println!("aspects not reached: {}", listed(&self.aspects_missed()));
+        println!("odd fields not reached: {}", listed(&self.odd_missed()));
         if !self.strange.is_empty() {
             println!("refusals not on the plate: {}", listed(&self.strange()));
         }

@@ -1,6 +1,7 @@
 /* Holds the library against the reference on streams that are whole, damaged or no streams at all.
  *   compare [INPUTS [SEED]]
- * Prints how many inputs of each kind there were, how the calls went, how many bytes were lacking on 5, and the differences; exit status 1 where there is one.
+ * Prints how many inputs of each kind there were, how the calls went, how many bytes were lacking on 5, how often a seek was answered by the number below its
+ * field, and the differences; exit status 1 where there is one.
  * Every input ends at a page that cannot be read, so a read behind the lent bytes would end the program; it is held against a copy afterwards. */
 #define _DEFAULT_SOURCE
 #include "reference.h"
@@ -37,8 +38,13 @@ static size_t size;
 static size_t offsets[PACKETS];
 static size_t packets;
 
-/* The tracks of the latest map. */
+/* The tracks of the latest map, and what it says of their fields per frame. */
 static unsigned ids[8], types[8], tracks;
+static uint64_t fields[8];
+
+/* What the media packets state, in stream order. */
+static uint64_t stated_tracks[PACKETS], stated_fields[PACKETS];
+static size_t stated;
 
 static void put(unsigned byte) { made[size++] = (uint8_t)byte; }
 
@@ -139,11 +145,22 @@ static void auxiliary_item(unsigned type, int is_free)
     }
 }
 
-/* The name stands before the auxiliary information or behind it. Beside a null name the form is free. */
-static void track_items(unsigned type)
+/* What an item 52 says: mostly 1 or 2, now and then a code that is neither, or a reserved value; NO_ITEM for no item. */
+enum { NO_ITEM = 9 };
+
+static uint64_t fields_code(void)
 {
-    int named = chance(60), behind = chance(30);
+    static const uint64_t others[] = {0, 3, 0xFFFFFFFE, 0xFFFFFFFF, 0x01000000, 0x101, NO_ITEM, NO_ITEM};
+    return chance(70) ? 1 + under(2) : others[under(sizeof others / sizeof others[0])];
+}
+
+/* The name stands before the auxiliary information or behind it, and item 52 before all or at the end. Beside a null name the form is free. */
+static void track_items(unsigned type, uint64_t code)
+{
+    int named = chance(60), behind = chance(30), code_first = chance(30);
     uint64_t len = under(6);
+    if (code != NO_ITEM && code_first)
+        number_item(0x52, code);
     if (named && !behind)
         text_item(0x4C, len);
     if (chance(40))
@@ -158,16 +175,36 @@ static void track_items(unsigned type)
         unknown_item(0x53 + (unsigned)under(40));
     if (chance(50))
         number_item(0x51, under(8));
-    if (chance(50))
-        number_item(0x52, under(4));
+    if (code != NO_ITEM && !code_first)
+        number_item(0x52, code);
     if (chance(2))
         number_item(0x50 + (unsigned)under(3), 1);
+}
+
+/* The tracks of a new map; those of the map before, some with fields per frame 1 where that was not, and 2 where it was. */
+static void new_tracks(void)
+{
+    unsigned i, first = (unsigned)under(60);
+    tracks = (unsigned)under(6);
+    for (i = 0; i < tracks; i++) {
+        ids[i] = (first + 7 * i) % 64;
+        types[i] = media_type();
+        fields[i] = fields_code();
+    }
+}
+
+static void same_tracks(void)
+{
+    unsigned i;
+    for (i = 0; i < tracks; i++)
+        if (chance(60))
+            fields[i] = fields[i] == 1 ? 2 : 1;
 }
 
 static void map_packet(void)
 {
     size_t at = begin(0xBC), word;
-    unsigned i, n = (unsigned)under(6), first = (unsigned)under(60);
+    unsigned i;
     put(0xE0);
     put(0xFF);
     word = size;
@@ -182,21 +219,27 @@ static void map_packet(void)
     close_word(word);
     word = size;
     put_big(0, 2);
-    tracks = 0;
-    for (i = 0; i < n; i++) {
+    for (i = 0; i < tracks; i++) {
         size_t length;
-        ids[tracks] = (first + 7 * i) % 64;
-        types[tracks] = media_type();
-        put(0x80 + types[tracks]);
-        put(0xC0 + ids[tracks]);
+        put(0x80 + types[i]);
+        put(0xC0 + ids[i]);
         length = size;
         put_big(0, 2);
-        track_items(types[tracks]);
+        track_items(types[i], fields[i]);
         close_word(length);
-        tracks++;
     }
     close_word(word);
     finish(at);
+}
+
+/* A map amid the stream: mostly of the tracks before, so that what is said of them changes and changes back. */
+static void next_map(void)
+{
+    if (chance(20))
+        new_tracks();
+    else
+        same_tracks();
+    map_packet();
 }
 
 static void locator_packet(void)
@@ -214,18 +257,31 @@ static void locator_packet(void)
     finish(at);
 }
 
+/* A field number: a low one, one beside that of an earlier packet, one of the two highest, or any. */
+static uint64_t field_number(void)
+{
+    if (chance(60))
+        return under(6);
+    if (stated != 0 && chance(50))
+        return (stated_fields[under(stated)] + under(3) - 1) & 0xFFFFFFFF;
+    return chance(50) ? 0xFFFFFFFE + under(2) : draw() & 0xFFFFFFFF;
+}
+
 static void media_packet(void)
 {
     size_t at = begin(0xBF);
-    unsigned k = tracks == 0 ? 0 : (unsigned)under(tracks);
+    unsigned k = tracks == 0 ? 0 : (unsigned)under(tracks), id = (unsigned)under(64);
+    uint64_t number = field_number();
     if (tracks != 0 && chance(96)) {
+        id = ids[k];
         put(types[k]);
-        put(ids[k]);
     } else {
         put(chance(50) ? 19 : (unsigned)under(256));
-        put((unsigned)under(64));
     }
-    put_big(chance(90) ? under(6) : draw(), 4);
+    put(id);
+    put_big(number, 4);
+    stated_tracks[stated] = id;
+    stated_fields[stated++] = number;
     put_big(draw(), 4);
     put_big(under(6), 4);
     put((unsigned)under(4));
@@ -248,6 +304,8 @@ static void make_stream(void)
     int locator_second = chance(30);
     size = 0;
     packets = 0;
+    stated = 0;
+    new_tracks();
     map_packet();
     if (locator_second)
         locator_packet();
@@ -256,8 +314,8 @@ static void make_stream(void)
     for (i = 0; i < n; i++) {
         if (tracks != 0 && chance(80))
             media_packet();
-        else if (n < 20 && chance(40))
-            map_packet();
+        else if (n < 20 && chance(60))
+            next_map();
         else
             bare_packet(chance(50) ? 0xFD : 0xFE);
     }
@@ -374,6 +432,10 @@ enum { ONE, FEW, SOME, MANY, SIZES };
 static const char *const size_names[SIZES] = {"1", "2 to 15", "16 to 65535", "more"};
 static uint64_t by_lacking[CALLS][SIZES];
 
+/* How often a seek was answered by a packet of the number below; with the highest field of all; with a packet of the field's own number behind it. And how often
+ * a packet of the even number below did not carry the field: it stands before the packet that does, or none does. */
+static uint64_t below, below_highest, below_first, passed_over;
+
 static void tally(int call, uint64_t number, uint64_t lacking)
 {
     calls[call]++;
@@ -430,9 +492,47 @@ static void ask_position(uint64_t input, const uint8_t *s, size_t n, size_t at, 
     hold(input, POSITION, at, distance, gxf_position(s, n, at, distance), reference_position(s, n, at, distance));
 }
 
+static uint64_t number_of(const uint8_t *p) { return (uint64_t)p[18] << 24 | (uint64_t)p[19] << 16 | (uint64_t)p[20] << 8 | p[21]; }
+
+/* Whether a packet from place `from` up to place `to` of an accepted stream has a field's number. */
+static int states(const uint8_t *s, size_t from, size_t to, uint64_t track, uint64_t field)
+{
+    size_t at;
+    for (at = from; at < to; at += reference_header(s, to, at).len)
+        if (s[at + 5] == GXF_MEDIA && s[at + 17] == track && number_of(s + at) == field)
+            return 1;
+    return 0;
+}
+
+/* By which number a seek in an accepted stream was answered. */
+static void tally_below(const uint8_t *s, size_t n, uint64_t track, uint64_t field, struct gxf_offset b)
+{
+    if (b.number == 0 && number_of(s + b.offset) != field) {
+        below++;
+        below_highest += field == 0xFFFFFFFF;
+        below_first += states(s, b.offset, n, track, field);
+    } else if ((b.number == 0 || b.number == 16) && field % 2 == 1) {
+        passed_over += states(s, 0, b.number == 0 ? b.offset : n, track, field - 1);
+    }
+}
+
 static void ask_seek(uint64_t input, const uint8_t *s, size_t n, uint64_t track, uint64_t field)
 {
-    hold(input, SEEK, track, field, gxf_seek(s, n, track, field), reference_seek(s, n, track, field));
+    struct gxf_offset b = reference_seek(s, n, track, field);
+    tally_below(s, n, track, field, b);
+    hold(input, SEEK, track, field, gxf_seek(s, n, track, field), b);
+}
+
+/* A field of a track: most often the one above what a packet states, that one itself or the one below; else any, or one past all. */
+static void ask_any_seek(uint64_t input, const uint8_t *s, size_t n)
+{
+    size_t k;
+    if (stated != 0 && chance(70)) {
+        k = under(stated);
+        ask_seek(input, s, n, stated_tracks[k], stated_fields[k] + (chance(60) ? 1 : under(2) - 1));
+    } else {
+        ask_seek(input, s, n, tracks != 0 && chance(80) ? ids[under(tracks)] : under(300), chance(70) ? under(7) : chance(60) ? 0xFFFFFFFE + under(4) : draw());
+    }
 }
 
 static void ask_all(uint64_t input, const uint8_t *s, size_t n)
@@ -450,8 +550,8 @@ static void ask_all(uint64_t input, const uint8_t *s, size_t n)
             for (i = 0; i < 4; i++)
                 ask_position(input, s, n, at, chance(90) ? under(600) : draw() << 11);
     }
-    for (i = 0; i < 4; i++)
-        ask_seek(input, s, n, tracks != 0 && chance(80) ? ids[under(tracks)] : under(300), chance(90) ? under(6) : draw());
+    for (i = 0; i < 8; i++)
+        ask_any_seek(input, s, n);
 }
 
 int main(int argc, char **argv)
@@ -505,6 +605,8 @@ int main(int argc, char **argv)
             printf("%s %s: %" PRIu64, i == 0 ? "" : ",", size_names[i], by_lacking[k][i]);
         printf("\n");
     }
+    printf("  by the number below: %" PRIu64 ", of them 4294967295: %" PRIu64 ", its own number behind: %" PRIu64 "; a number below passed over: %" PRIu64 "\n", below,
+           below_highest, below_first, passed_over);
     printf("differences: %" PRIu64 "\n", differences);
     return differences != 0;
 }

@@ -259,6 +259,22 @@ static void listed_types(const uint8_t *p, unsigned types[64])
             types[p[at + 1] - 0xC0] = p[at] - 0x80;
 }
 
+/* Of a map without a fault: whether its listed track of this ID has fields per frame 1, an item 52 of value 1. A null name does not hide that item. */
+static int one_field_a_frame(const uint8_t *p, unsigned id)
+{
+    uint64_t at = 20 + big(p + 18, 2);
+    uint64_t to = at + 2 + big(p + at, 2);
+    uint64_t next, item;
+    for (at += 2; at < to; at = next) {
+        next = at + 4 + big(p + at + 2, 2);
+        if (known_media_type(p[at] - 0x80U) && p[at + 1] - 0xC0U == id) {
+            item = item_at(p, at + 4, next, 0x52);
+            return item != 0 && big(p + item + 2, 4) == 1;
+        }
+    }
+    return 0;
+}
+
 static struct fault map_fault(const uint8_t *p, uint64_t len)
 {
     uint64_t word;
@@ -344,15 +360,31 @@ static struct fault stream_fault(const uint8_t *s, size_t n)
     return count == 0 ? fault(17, 0) : fault(18, n);
 }
 
+/* Whether a media packet carries a field of a track, by the latest map before it: the field that its number is; and the one above, where the number is even
+ * and that map gives its track fields per frame 1. */
+static int carries(const uint8_t *p, const uint8_t *map, uint64_t track, uint64_t field)
+{
+    uint64_t number = big(p + 18, 4);
+    if (!known_media_type(p[16]) || p[17] != track)
+        return 0;
+    if (number == field)
+        return 1;
+    return number % 2 == 0 && number + 1 == field && one_field_a_frame(map, p[17]);
+}
+
+/* The first packet in stream order that carries the field, by its own number or by the number below. */
 struct gxf_offset reference_seek(const uint8_t *s, size_t n, uint64_t track, uint64_t field)
 {
     struct gxf_offset answer = {0, 0, 0, 0};
     struct fault f = stream_fault(s, n);
+    const uint8_t *map = s;
     size_t at;
     if (f.number == 0) {
         for (at = 0; at < n; at += big(s + at + 6, 4)) {
             const uint8_t *p = s + at;
-            if (p[5] == 0xBF && known_media_type(p[16]) && p[17] == track && big(p + 18, 4) == field) {
+            if (p[5] == 0xBC)
+                map = p;
+            if (p[5] == 0xBF && carries(p, map, track, field)) {
                 answer.offset = at;
                 return answer;
             }

@@ -129,12 +129,15 @@ pub fn large(rng: &mut Rng) -> Made {
             (Request::new(BUILD, &[room], &[&stream(rng)]), None)
         }
         4 => {
-            let book: Vec<u8> = (0..4_096u64)
-                .flat_map(|i| record(1, 10, i as u32, 3 * i))
+            // a record for each field, or for each two with 64 in its type byte
+            let (fields, kind) = rng.pick(&[(1, 10), (2, 10 + 64)]);
+            let book: Vec<u8> = (0..4_096)
+                .flat_map(|i| record(1, kind, (fields * i) as u32, 3 * i))
                 .collect();
-            let field = rng.pick(&[0, 4_095, 4_096, 2_000]);
-            let claim = if field < 4_096 {
-                Some(format!("at {}", 3 * field))
+            let end = 4_096 * fields;
+            let field = rng.pick(&[0, end - 1, end, end / 2 - 1]);
+            let claim = if field < end {
+                Some(format!("at {}", 3 * (field / fields)))
             } else {
                 refused(16, 0)
             };

@@ -72,6 +72,12 @@ impl Track {
         self.items.iter().any(null)
     }
 
+    /// Whether its item 52 says fields per frame 1; a null name does not hide it (02, §2).
+    pub fn progressive(&self) -> bool {
+        let one = |item: &Item| item.tag == 0x52 && item.value == [0, 0, 0, 1];
+        self.items.iter().any(one)
+    }
+
     /// Which item has the form that may not stand in this track, its items being good by themselves (02, §12).
     pub fn wrong_item(&self) -> Option<usize> {
         let forms = forms(self.kind(), self.null_name());

@@ -22,7 +22,7 @@ pub type Made = (Request, Option<String>);
 pub type Maker = fn(&mut Rng) -> Made;
 
 /// Kinds of cases, taken in turn. The first word is the function.
-pub const KINDS: [(&str, Maker); 78] = [
+pub const KINDS: [(&str, Maker); 82] = [
     ("header plain", packets::header_plain),
     ("header faults", packets::header_faults),
     ("header noise", packets::header_noise),
@@ -80,15 +80,19 @@ pub const KINDS: [(&str, Maker); 78] = [
     ("check damage", streams::check_damage),
     ("seek found", streams::seek_found),
     ("seek asked", streams::seek_asked),
+    ("seek odd", streams::seek_odd),
     ("seek torn", streams::seek_torn),
     ("seek wrong form", streams::seek_form),
     ("seek damage", streams::seek_damage),
     ("book build", books::build),
+    ("book build odd", books::build_odd),
     ("book build torn", books::build_torn),
     ("book build wrong form", books::build_form),
     ("book build damage", books::build_damage),
     ("lookup found", books::lookup_found),
     ("lookup asked", books::lookup_asked),
+    ("lookup odd", books::lookup_odd),
+    ("lookup wrong 64", books::lookup_wrong_64),
     ("lookup broken", books::lookup_broken),
     ("lookup damage", books::lookup_damage),
     ("flt writer valid", writers::flt_valid),

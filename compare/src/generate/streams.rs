@@ -18,6 +18,8 @@ pub struct Piece {
     pub carries: Option<(u8, u32)>,
     /// The type of such a packet.
     pub media_type: u8,
+    /// Of a map: the IDs of the listed tracks that it gives fields per frame 1.
+    pub progressive: Vec<u8>,
 }
 
 #[derive(Clone)]
@@ -46,6 +48,16 @@ impl Stream {
         self.offset(self.pieces.len())
     }
 
+    /// Whether a packet carries two fields: an even number, on a track to which the latest map before it gives fields per frame 1.
+    pub fn doubled(&self, i: usize) -> bool {
+        let Some((id, field)) = self.pieces[i].carries else {
+            return false;
+        };
+        let mut before = self.pieces[..i].iter().rev();
+        let map = before.find(|piece| piece.kind == 0xBC);
+        field % 2 == 0 && map.is_some_and(|map| map.progressive.contains(&id))
+    }
+
     fn eos(&self) -> usize {
         self.pieces.len() - 1
     }
@@ -61,6 +73,7 @@ fn piece(kind: u8, payload: &[u8]) -> Piece {
         bytes: packet(kind, payload),
         carries: None,
         media_type: 0,
+        progressive: Vec::new(),
     }
 }
 
@@ -111,14 +124,40 @@ fn other(rng: &mut Rng) -> Piece {
     piece(kind, &rng.bytes(n))
 }
 
-/// A track of a map, at times with a name and with auxiliary information.
+/// Values of item 52 that are not 1, though some have a byte of it.
+const NOT_PROGRESSIVE: [i32; 13] = [2, 2, 2, 2, 2, -1, -2, 0, 3, 257, 65_536, 16_777_216, -255];
+
+/// Sets codes into a track that has none: half of the time fields per frame 1, at times beside a null name; and a 1 that says
+/// nothing of fields.
+fn set_codes(rng: &mut Rng, track: &mut Track) {
+    let mut set_in = |tag: u8, value: i32, rng: &mut Rng| {
+        let at = rng.below(track.items.len() + 1);
+        let item = Item::new(tag, &value.to_be_bytes());
+        track.items.insert(at, item);
+    };
+    match rng.below(8) {
+        0..=3 => set_in(0x52, 1, rng),
+        4..=6 => set_in(0x52, rng.pick(&NOT_PROGRESSIVE), rng),
+        _ => {}
+    }
+    if rng.chance(1, 4) {
+        set_in(rng.pick(&[0x50, 0x51, 0x53]), 1, rng);
+    }
+    if rng.chance(1, 8) {
+        maps::set_null_name(rng, track);
+    }
+}
+
+/// A track of a map, at times with a name, with auxiliary information and with codes.
 fn map_track(id: u8, kind: u8, rng: &mut Rng) -> Track {
-    Track {
+    let mut track = Track {
         type_byte: 0x80 + kind,
         id_byte: 0xC0 + id,
         items: maps::name_and_form(rng, kind, 1, 1),
         overhang: 0,
-    }
+    };
+    set_codes(rng, &mut track);
+    track
 }
 
 /// A map that lists the tracks, and at times one more that it does not list.
@@ -129,8 +168,14 @@ fn map_model(tracks: &[(u8, u8)], rng: &mut Rng) -> Model {
             .material
             .push(Item::new(0x41, &rng.edge32().to_be_bytes()));
     }
+    if rng.chance(1, 8) {
+        model.material.push(Item::new(0x52, &[0, 0, 0, 1])); // unknown in this section
+    }
     for (id, kind) in tracks {
         model.tracks.push(map_track(*id, *kind, rng));
+    }
+    if rng.chance(1, 3) {
+        rng.shuffle(&mut model.tracks);
     }
     if rng.chance(1, 8) {
         let kind = rng.pick(&RESERVED_TYPES);
@@ -140,8 +185,17 @@ fn map_model(tracks: &[(u8, u8)], rng: &mut Rng) -> Model {
     model
 }
 
+fn map_piece(model: &Model) -> Piece {
+    let listed = model.tracks.iter().filter(|track| track.listed());
+    let progressive = listed.filter(|track| track.progressive());
+    Piece {
+        progressive: progressive.map(Track::id).collect(),
+        ..piece(0xBC, &model.bytes()[16..])
+    }
+}
+
 fn map(tracks: &[(u8, u8)], rng: &mut Rng) -> Piece {
-    piece(0xBC, &map_model(tracks, rng).bytes()[16..])
+    map_piece(&map_model(tracks, rng))
 }
 
 /// A map that lists the tracks, one or more of them with the wrong form, and the place of the first wrong item.
@@ -152,15 +206,18 @@ fn wrong_map(tracks: &[(u8, u8)], rng: &mut Rng) -> (Piece, u64) {
         maps::set_wrong_form(rng, &mut model.tracks[i]);
     }
     let place = model.wrong_form().expect("a wrong form was set in");
-    (piece(0xBC, &model.bytes()[16..]), place as u64)
+    (map_piece(&model), place as u64)
 }
 
-/// Field numbers that a narrowing or a mixed-up byte order would take for others.
-fn field(rng: &mut Rng) -> u32 {
-    if rng.chance(1, 8) {
-        rng.edge32()
-    } else {
-        rng.below(6) as u32
+/// The last even number; one more is the last of all.
+const LAST_EVEN: u32 = u32::MAX - 1;
+
+/// Field numbers that a narrowing or a mixed-up byte order would take for others, the last two among them.
+pub fn field(rng: &mut Rng) -> u32 {
+    match rng.below(16) {
+        0 | 1 => rng.edge32(),
+        2 => rng.pick(&[LAST_EVEN, LAST_EVEN + 1]),
+        _ => rng.below(6) as u32,
     }
 }
 
@@ -191,6 +248,17 @@ fn any_media(tracks: &[(u8, u8)], rng: &mut Rng) -> Piece {
     media(kind, id, field, rng)
 }
 
+/// A packet of a track that has one already, with its number or with the other one of the pair of an even number and the next.
+fn beside(pieces: &[Piece], tracks: &[(u8, u8)], rng: &mut Rng) -> Piece {
+    let known: Vec<&Piece> = pieces.iter().filter(|p| p.carries.is_some()).collect();
+    if known.is_empty() {
+        return any_media(tracks, rng);
+    }
+    let one = rng.pick(&known);
+    let (id, field) = one.carries.expect("it is of known type");
+    media(one.media_type, id, field ^ rng.pick(&[0, 1, 1]), rng)
+}
+
 /// A stream that passes; without `own_flt` it has no FLT.
 fn plain(rng: &mut Rng, own_flt: bool) -> Stream {
     let tracks = tracks(rng);
@@ -201,10 +269,11 @@ fn plain(rng: &mut Rng, own_flt: bool) -> Stream {
         rng.below(8)
     };
     for _ in 0..n {
-        let next = match rng.below(10) {
-            0 => map(&tracks, rng),
-            1 => umf(rng),
-            2 => other(rng),
+        let next = match rng.below(12) {
+            0 | 1 => map(&tracks, rng),
+            2 => umf(rng),
+            3 => other(rng),
+            4 | 5 => beside(&pieces, &tracks, rng),
             _ => any_media(&tracks, rng),
         };
         pieces.push(next);
@@ -231,6 +300,36 @@ fn plain(rng: &mut Rng, own_flt: bool) -> Stream {
 
 pub fn good(rng: &mut Rng) -> Stream {
     plain(rng, true)
+}
+
+/// A stream that passes, of one track or two: its maps turn the fields per frame back and forth, at times a type with them, and
+/// its packets have numbers that stand side by side, at times the last two of all and the first two.
+pub fn odd_stream(rng: &mut Rng) -> Stream {
+    let mut first = tracks(rng);
+    first.truncate(rng.pick(&[1, 1, 1, 2]));
+    let mut tracks = first.clone();
+    let lowest = rng.pick(&[0, 300, (1 << 31) - 2, LAST_EVEN - 2, LAST_EVEN, LAST_EVEN]);
+    let mut pieces = vec![map(&tracks, rng)];
+    for i in 0..2 + rng.below(12) {
+        let k = rng.below(tracks.len());
+        if i > 0 && rng.chance(1, 3) {
+            if rng.chance(1, 4) {
+                tracks[k].1 = rng.pick(&KNOWN_TYPES);
+            }
+            pieces.push(map(&tracks, rng));
+        } else {
+            let (id, kind) = tracks[k];
+            let field = lowest.wrapping_add(rng.pick(&[0, 0, 0, 1, 1, 2, 3]));
+            pieces.push(media(kind, id, field, rng));
+        }
+    }
+    let at = 1 + rng.below(pieces.len());
+    pieces.insert(at, umf(rng));
+    pieces.push(eos(rng));
+    Stream {
+        pieces,
+        tracks: first,
+    }
 }
 
 fn ask(stream: &Stream) -> Request {
@@ -498,8 +597,7 @@ pub fn null_name_stream(rng: &mut Rng) -> Stream {
     let i = rng.below(model.tracks.len());
     maps::set_wrong_form(rng, &mut model.tracks[i]);
     maps::set_null_name(rng, &mut model.tracks[i]);
-    let map = piece(0xBC, &model.bytes()[16..]);
-    put_map(rng, &mut stream, map);
+    put_map(rng, &mut stream, map_piece(&model));
     stream
 }
 
@@ -697,32 +795,31 @@ pub fn check_damage(rng: &mut Rng) -> Made {
     (Request::new(CHECK, &[], &[&bytes]), None)
 }
 
+/// Whether a packet or record of this track and number, doubled or not, carries a field: its own, or either of its pair.
+pub fn carries((id, stated): (u8, u32), doubled: bool, track: u64, field: u64) -> bool {
+    let stated = u64::from(stated);
+    let is_in_pair = doubled && field / 2 == stated / 2;
+    u64::from(id) == track && (field == stated || is_in_pair)
+}
+
 /// The first packet that carries the field, told from the pieces.
 pub fn carrier(stream: &Stream, track: u64, field: u64) -> Option<u64> {
-    let i = stream.pieces.iter().position(|piece| {
-        piece
-            .carries
-            .is_some_and(|(id, f)| u64::from(id) == track && u64::from(f) == field)
-    })?;
+    let does = |i: &usize| {
+        let stated = stream.pieces[*i].carries;
+        stated.is_some_and(|stated| carries(stated, stream.doubled(*i), track, field))
+    };
+    let i = (0..stream.pieces.len()).find(does)?;
     Some(stream.offset(i))
 }
 
-/// A track and a field: carried by some packet, or near one that is.
-pub fn question(rng: &mut Rng, stream: &Stream, near: bool) -> (u64, u64) {
-    let carried: Vec<(u8, u32)> = stream
-        .pieces
-        .iter()
-        .filter_map(|piece| piece.carries)
-        .collect();
-    if carried.is_empty() {
-        return (rng.below(66) as u64, rng.edge());
-    }
-    let (id, field) = rng.pick(&carried);
-    let (id, field) = (u64::from(id), u64::from(field));
+/// A track and a field: carried by a packet or record of this track and number, doubled or not; or near one that is.
+pub fn ask_of(rng: &mut Rng, stated: (u8, u32), doubled: bool, near: bool) -> (u64, u64) {
+    let (id, field) = (u64::from(stated.0), u64::from(stated.1));
     if !near {
-        return (id, field);
+        let above = u64::from(doubled && rng.chance(1, 2));
+        return (id, field + above);
     }
-    match rng.below(6) {
+    match rng.below(8) {
         0 => (
             id + rng.pick(&[64, 128, 192, 256, 65_536, 1 << 32, 1 << 63]),
             field,
@@ -730,13 +827,49 @@ pub fn question(rng: &mut Rng, stream: &Stream, near: bool) -> (u64, u64) {
         1 => (id, field + (1 << 32)),
         2 => (id, field | 1 << 63),
         3 => (id, field + 1),
-        4 => (rng.below(65) as u64, field),
+        4 => (id, field.wrapping_sub(1)),
+        5 => (id, (field + rng.pick(&[1, 2])) % (1 << 32)), // the last one is followed by 0 or 1
+        6 => (rng.below(65) as u64, field),
         _ => (rng.edge(), rng.edge()),
     }
 }
 
+/// A track and a field: the odd number of a pair, or one beside a number that is stated, where 0 is beside the last one.
+pub fn ask_odd(rng: &mut Rng, (id, stated): (u8, u32)) -> (u64, u64) {
+    let field = u64::from(stated);
+    let asked = match rng.below(6) {
+        0..=2 => field | 1,
+        3 => field + 1,
+        4 => u64::from(stated.wrapping_add(1)),
+        _ => field.wrapping_sub(1),
+    };
+    (u64::from(id), asked)
+}
+
+/// The media packets of known type.
+fn known(stream: &Stream) -> Vec<usize> {
+    let all = 0..stream.pieces.len();
+    all.filter(|i| stream.pieces[*i].carries.is_some())
+        .collect()
+}
+
+/// A track and a field: carried by some packet, or near one that is.
+pub fn question(rng: &mut Rng, stream: &Stream, near: bool) -> (u64, u64) {
+    let carried = known(stream);
+    if carried.is_empty() {
+        return (rng.below(66) as u64, rng.edge());
+    }
+    let i = rng.pick(&carried);
+    let stated = stream.pieces[i].carries.expect("it is of known type");
+    ask_of(rng, stated, stream.doubled(i), near)
+}
+
 fn seek(rng: &mut Rng, stream: &Stream, near: bool) -> Made {
-    let (track, field) = question(rng, stream, near);
+    let asked = question(rng, stream, near);
+    seek_for(stream, asked)
+}
+
+fn seek_for(stream: &Stream, (track, field): (u64, u64)) -> Made {
     let claim = match carrier(stream, track, field) {
         Some(at) => Some(format!("at {at}")),
         None => refused(16, 0),
@@ -755,6 +888,14 @@ pub fn seek_found(rng: &mut Rng) -> Made {
 pub fn seek_asked(rng: &mut Rng) -> Made {
     let stream = good(rng);
     seek(rng, &stream, true)
+}
+
+pub fn seek_odd(rng: &mut Rng) -> Made {
+    let stream = odd_stream(rng);
+    let i = rng.pick(&known(&stream));
+    let stated = stream.pieces[i].carries.expect("it is of known type");
+    let asked = ask_odd(rng, stated);
+    seek_for(&stream, asked)
 }
 
 pub fn seek_damage(rng: &mut Rng) -> Made {

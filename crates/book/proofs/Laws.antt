@@ -1,11 +1,11 @@
 -- One pass over a lent book, a record at a time: what is left to do from record n on.
-use Prim.Native.Nat.{ℕ, zero, suc, _+_, _-_, _*_, _/_, _%_, _<_, _≤_}
+use Prim.Native.Nat.{ℕ, zero, suc, _+_, _-_, _*_, _/_, _%_, _^_, _<_, _≤_}
 use mathlib.Core.Path.{_≡_, refl, sym, _∙_}
 use mathlib.Core.Bool.{Bool, true, false}
 use mathlib.Core.List.{List}
 use native.Mathlib.Omega.{arith}
 use lib.ListN.{length, getD}
-use borrow.Author.Tests.{lt-ltb, le-ltb, eq-eqb, ne-eqb, ltb-true, eqb-true, eqb-false}
+use borrow.Author.Tests.{lt-ltb, le-ltb, eq-eqb, ne-eqb, ltb-true, ltb-false, eqb-true, eqb-false, le-leb, lt-leb}
 use lib.Dec.{eqb, ltb}
 use Rattle.plate.specs.Choice.{pick}
 use Rattle.plate.specs.Ended.{none}
@@ -14,9 +14,12 @@ use Rattle.plate.proofs.Tests.{no-choice}
 use Rattle.number.specs.Number.{le}
 use Rattle.number.proofs.Laws.{Bytes, le-four}
 use Rattle.media_type.specs.MediaType.{knownType}
-use Rattle.field.specs.Field.{hasMark, isEven}
-use Rattle.book.specs.Book.{Book, onSlot, Slot, broken, holds, saidAt, recordAt, bookFrom, bookOf, soundType, risesAt, stands, judgeBook, Verdict, bad, good, isOf, firstIn, orNotThere, Offset, nothing, there, ifGood, lookupOf}
-use Rattle.book.specs.Inside.{bookAt, soundHead, verdictFrom}
+use Rattle.media_type.proofs.Laws.{known-over, known-under}
+use Rattle.field.specs.Field.{hasMark, isEven, isField}
+use Rattle.field.proofs.Laws.{other-half, own-half}
+use Rattle.book.specs.Book.{onSlot, Slot, broken, holds, saidAt, recordAt, bookFrom, bookOf, soundType, risesAt, stands, judgeBook, bad, good, isOf, firstIn, orNotThere, nothing, there, ifGood, lookupOf}
+use Rattle.book.specs.Inside.{bookAt, plainHead, doubledHead, soundHead, kindOf, verdictFrom}
+use Rattle.book.specs.declared.Kind.the-variants.{Bad, Other, Near}
 use Rattle.book.specs.declared.Entry.{Entry}
 use Rattle.book.specs.declared.LookupAnswer.{LookupAnswer}
 use Rattle.book.specs.declared.LookupAnswer.the-variants as lookup
@@ -78,25 +81,130 @@ module _ (n last : ℕ) (e : Entry) where
 word-type : (s : List ℕ) → Bytes s → (at : ℕ) → le s at 4 / 0x1000000 ≡ getD s (at + 3) 0
 word-type s g at = let w = le-four s at _ _ _ _ refl refl refl refl in omega (arith, w, g at, g (at + 1), g (at + 2), g (at + 3))
 
--- beside a good first word the type byte is good
-pub type-sound : (s : List ℕ) → Bytes s → (at number : ℕ) → soundHead (le s at 4) number ≡ true → soundType (getD s (at + 3) 0) number ≡ true
-unfolding soundHead
-type-sound s g at number h =
-    go (eqb (le s at 4 % 0x10000) 0x5847) (ltb 63 (le s at 4 / 0x10000 % 0x100)) (rw (word-type s g at) at h)
-  where
-    go : (p q : Bool) → pick p (pick q false (soundType (getD s (at + 3) 0) number)) false ≡ true → soundType (getD s (at + 3) 0) number ≡ true
-    go true true e = absurd (let z : _≡_ {A = ℕ} 0 1 = cc in omega arith)
-    go true false e = e
-    go false q e = absurd (let z : _≡_ {A = ℕ} 0 1 = cc in omega arith)
+as-is : (b : Bool) → b ≡ pick b true false
+as-is true = refl
+as-is false = refl
 
--- with the mark its number is even
-pub marked-even : (byte number : ℕ) → soundType byte number ≡ true → hasMark byte ≡ true → isEven number ≡ true
-unfolding soundType
-marked-even byte number h m = go (knownType (byte - 64)) (rw m at h)
-  where
-    go : (k : Bool) → pick k (isEven number) false ≡ true → isEven number ≡ true
-    go true e = e
-    go false e = absurd (let z : _≡_ {A = ℕ} 0 1 = cc in omega arith)
+wraps : (x : ℕ) → 0x4000 ≤ x → (x - 0x4000) % 0x100 ≡ x % 0x100
+wraps x h = omega arith
+
+four : (p q t e : Bool) → pick p (pick q false (pick t e false)) false ≡ pick (pick p (pick q false false) false) true (pick e (pick p (pick q false t) false) false)
+four true true t true = refl
+four true true t false = refl
+four true false true true = refl
+four true false true false = refl
+four true false false true = refl
+four true false false false = refl
+four false q t true = refl
+four false q t false = refl
+
+-- a word under 0x40000000 has no mark in it, and from there on it has, with the rest of it as it was
+module _ (h number : ℕ) (small : h < 2 ^ 32) where
+  abbrev low : ℕ
+  low = h - 0x40000000
+
+  unmarked : h < 0x40000000 → hasMark (h / 0x1000000) ≡ false
+  unfolding hasMark
+  unmarked k = lt-leb 64 (h / 0x1000000) (omega arith)
+
+  has-marked : 0x40000000 ≤ h → hasMark (h / 0x1000000) ≡ true
+  unfolding hasMark
+  has-marked k = le-leb 64 (h / 0x1000000) (omega arith)
+
+  -- a known type is under the mark
+  plain-low : plainHead h ≡ true → h < 0x40000000
+  unfolding plainHead
+  plain-low = go (eqb (h % 0x10000) 0x5847) (ltb 63 (h / 0x10000 % 0x100))
+    where
+      go : (p q : Bool) → pick p (pick q false (knownType (h / 0x1000000))) false ≡ true → h < 0x40000000
+      go true false e = omega (arith, known-under (h / 0x1000000) e)
+      go true true e = absurd (let z : _≡_ {A = ℕ} 0 1 = cc in omega arith)
+      go false q e = absurd (let z : _≡_ {A = ℕ} 0 1 = cc in omega arith)
+
+  doubled-high : doubledHead h number ≡ true → (0x40000000 ≤ h) × (isEven number ≡ true)
+  unfolding doubledHead
+  doubled-high = go (ltb h 0x40000000) refl (isEven number)
+    where
+      go : (b : Bool) → ltb h 0x40000000 ≡ b → (e : Bool) → pick b false (pick e (plainHead low) false) ≡ true → (0x40000000 ≤ h) × (e ≡ true)
+      go true q e f = absurd (let z : _≡_ {A = ℕ} 0 1 = cc in omega arith)
+      go false q true f = (ltb-false h 0x40000000 q, refl)
+      go false q false f = absurd (let z : _≡_ {A = ℕ} 0 1 = cc in omega arith)
+
+  not-known : 0x40000000 ≤ h → knownType (h / 0x1000000) ≡ false
+  not-known k = known-over (h / 0x1000000) (omega arith)
+
+  -- a good first word is a plain one, or one with the mark
+  pub sound-either : soundHead h number ≡ pick (plainHead h) true (doubledHead h number)
+  unfolding soundHead plainHead doubledHead soundType
+  sound-either = go (ltb h 0x40000000) refl
+    where
+      marks : Bool
+      marks = eqb (h % 0x10000) 0x5847
+
+      far : Bool
+      far = ltb 63 (h / 0x10000 % 0x100)
+
+      go : (b : Bool) → ltb h 0x40000000 ≡ b
+          → pick marks (pick far false (pick (hasMark (h / 0x1000000)) (pick (knownType (h / 0x1000000 - 64)) (isEven number) false) (knownType (h / 0x1000000)))) false
+          ≡ pick (pick marks (pick far false (knownType (h / 0x1000000))) false) true
+          (pick b false (pick (isEven number) (pick (eqb (low % 0x10000) 0x5847) (pick (ltb 63 (low / 0x10000 % 0x100)) false (knownType (low / 0x1000000))) false) false))
+      go true q = rw (unmarked (ltb-true h 0x40000000 q)) (as-is (pick marks (pick far false (knownType (h / 0x1000000))) false))
+      go false q =
+          let k = ltb-false h 0x40000000 q in
+          let a : low % 0x10000 ≡ h % 0x10000 = omega (arith, k) in
+          let y : low / 0x10000 ≡ h / 0x10000 - 0x4000 = omega (arith, k) in
+          let x : 0x4000 ≤ h / 0x10000 = omega (arith, k) in
+          let b : low / 0x10000 % 0x100 ≡ h / 0x10000 % 0x100 = rw y (wraps (h / 0x10000) x) in
+          let d : low / 0x1000000 ≡ h / 0x1000000 - 64 = omega (arith, k) in
+          rw (has-marked k, a, b, d, not-known k) (four marks far (knownType (h / 0x1000000 - 64)) (isEven number))
+
+  module _ (field : ℕ) where
+    -- what each kind tells: whether the first word is good, and whether the record is of the field
+    pub kind-bad : kindOf h number field ≡ Bad → soundHead h number ≡ false
+    unfolding kindOf
+    kind-bad e = sound-either ∙ go (plainHead h) (doubledHead h number) (eqb number field) (eqb (number / 2) (field / 2)) e
+      where
+        go : (a b q r : Bool) → pick a (pick q Near Other) (pick b (pick r Near Other) Bad) ≡ Bad → pick a true b ≡ false
+        go true b true r e = absurd (let z : _≡_ {A = ℕ} 0 1 = cc in omega arith)
+        go true b false r e = absurd (let z : _≡_ {A = ℕ} 0 1 = cc in omega arith)
+        go false true q true e = absurd (let z : _≡_ {A = ℕ} 0 1 = cc in omega arith)
+        go false true q false e = absurd (let z : _≡_ {A = ℕ} 0 1 = cc in omega arith)
+        go false false q r e = refl
+
+    plain-of : plainHead h ≡ true → isField (hasMark (h / 0x1000000)) number field ≡ eqb number field
+    unfolding isField
+    plain-of a = rw (unmarked (plain-low a)) (sym (as-is (eqb number field)))
+
+    doubled-of : doubledHead h number ≡ true → isField (hasMark (h / 0x1000000)) number field ≡ eqb (number / 2) (field / 2)
+    doubled-of b = let w = doubled-high b in rw (has-marked (w .0)) (go (eqb (number / 2) (field / 2)) refl (w .1))
+      where
+        go : (r : Bool) → eqb (number / 2) (field / 2) ≡ r → isEven number ≡ true → isField true number field ≡ r
+        go true q e = own-half number field e (eqb-true (number / 2) (field / 2) q)
+        go false q e = other-half true number field (λ _. e) (eqb-false (number / 2) (field / 2) q)
+
+    pub kind-other : kindOf h number field ≡ Other → (soundHead h number ≡ true) × (isField (hasMark (h / 0x1000000)) number field ≡ false)
+    unfolding kindOf
+    kind-other e = go (plainHead h) refl (doubledHead h number) refl (eqb number field) refl (eqb (number / 2) (field / 2)) refl e
+      where
+        go : (a : Bool) → plainHead h ≡ a → (b : Bool) → doubledHead h number ≡ b → (q : Bool) → eqb number field ≡ q → (r : Bool) → eqb (number / 2) (field / 2) ≡ r
+            → pick a (pick q Near Other) (pick b (pick r Near Other) Bad) ≡ Other → (soundHead h number ≡ true) × (isField (hasMark (h / 0x1000000)) number field ≡ false)
+        go true i b j true k r l e = absurd (let z : _≡_ {A = ℕ} 0 1 = cc in omega arith)
+        go true i b j false k r l e = (sound-either ∙ rw i, plain-of i ∙ k)
+        go false i true j q k true l e = absurd (let z : _≡_ {A = ℕ} 0 1 = cc in omega arith)
+        go false i true j q k false l e = (sound-either ∙ rw (i, j), doubled-of j ∙ l)
+        go false i false j q k r l e = absurd (let z : _≡_ {A = ℕ} 0 1 = cc in omega arith)
+
+    pub kind-near : kindOf h number field ≡ Near → (soundHead h number ≡ true) × (isField (hasMark (h / 0x1000000)) number field ≡ true)
+    unfolding kindOf
+    kind-near e = go (plainHead h) refl (doubledHead h number) refl (eqb number field) refl (eqb (number / 2) (field / 2)) refl e
+      where
+        go : (a : Bool) → plainHead h ≡ a → (b : Bool) → doubledHead h number ≡ b → (q : Bool) → eqb number field ≡ q → (r : Bool) → eqb (number / 2) (field / 2) ≡ r
+            → pick a (pick q Near Other) (pick b (pick r Near Other) Bad) ≡ Near → (soundHead h number ≡ true) × (isField (hasMark (h / 0x1000000)) number field ≡ true)
+        go true i b j true k r l e = (sound-either ∙ rw i, plain-of i ∙ k)
+        go true i b j false k r l e = absurd (let z : _≡_ {A = ℕ} 0 1 = cc in omega arith)
+        go false i true j q k true l e = (sound-either ∙ rw (i, j), doubled-of j ∙ l)
+        go false i true j q k false l e = absurd (let z : _≡_ {A = ℕ} 0 1 = cc in omega arith)
+        go false i false j q k r l e = absurd (let z : _≡_ {A = ℕ} 0 1 = cc in omega arith)
 
 -- by its first word, its number and its offset: whether a record that is there may stand as record n
 pub seen : (s : List ℕ) → Bytes s → (at n last : ℕ) → at + 16 ≤ length s
@@ -189,3 +297,17 @@ module _ (s : List ℕ) (track field n last : ℕ) (room : n * 16 + 16 ≤ lengt
   pub on-found : isOf track field (saidAt s (n * 16)) ≡ true
       → ifGood (verdictFrom s (n + 1) (le s (n * 16 + 8) 8)) (lookup.At (le s (n * 16 + 8) 8)) ≡ answerFrom s track field n last
   on-found q = rw (next s n last (omega arith) f, first s n last (omega arith) f track field, q)
+
+-- whether a record is of a track and a field, by its first word
+module _ (s : List ℕ) (g : Bytes s) (at track field : ℕ) where
+  pub not-field : isField (hasMark (le s at 4 / 0x1000000)) (le s (at + 4) 4) field ≡ false → isOf track field (saidAt s at) ≡ false
+  unfolding isOf
+  not-field e = rw (← word-type s g at, e) (no-choice (eqb (getD s (at + 2) 0) track) false)
+
+  pub not-track : (getD s (at + 2) 0 ≡ track → ⊥) → isOf track field (saidAt s at) ≡ false
+  unfolding isOf
+  not-track h = rw (ne-eqb (getD s (at + 2) 0) track h)
+
+  pub both-are : isField (hasMark (le s at 4 / 0x1000000)) (le s (at + 4) 4) field ≡ true → getD s (at + 2) 0 ≡ track → isOf track field (saidAt s at) ≡ true
+  unfolding isOf
+  both-are e h = rw (eq-eqb (getD s (at + 2) 0) track h, ← word-type s g at) e

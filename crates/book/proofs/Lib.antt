@@ -1,4 +1,5 @@
 pub mod Coding
 pub mod Laws
+pub mod Marked
 pub mod Numbers
 pub mod Once

@@ -14,7 +14,7 @@ use Rattle.book.specs.declared.Entry.{Entry}
 use Rattle.book.specs.declared.LookupAnswer.{LookupAnswer}
 use Rattle.book.specs.declared.LookupAnswer.the-variants as lookup
 
--- the encoder: mark 47 58, ID, type byte, field number (32), packet offset (64), least significant first; 16 bytes. It is for a field number under 2^32 and an offset under 2^64: more would be cut
+-- the encoder: mark 47 58, ID, marked type, field number (32), packet offset (64), least significant first; 16 bytes. It is for a field number under 2^32 and an offset under 2^64: more would be cut
 unfoldable pub recordBytes : Entry → List ℕ
 recordBytes e = 0x47 ∷ 0x58 ∷ e .track ∷ e .«media_type» ∷ (leBytes 4 (e .field) ++ leBytes 8 (e .at))
 
@@ -61,11 +61,11 @@ bookOf s = bookFrom s (suc (length s)) 0
 unfoldable pub risesAt : ℕ → ℕ → ℕ → Bool
 risesAt n last offset = pick (eqb n 0) true (ltb last offset)
 
--- a type byte is good beside a number: a known type; or one with the mark, 64, and then the number is even (02, §2)
+-- a marked type is good beside a number: a known type; or a known type and 64, and then the number is even (02, §2)
 unfoldable pub soundType : ℕ → ℕ → Bool
 soundType byte number = pick (hasMark byte) (pick (knownType (byte - 64)) (isEven number) false) (knownType byte)
 
--- a record may stand as record n: an ID up to 63, a good type byte, an offset that rises
+-- a record may stand as record n: an ID up to 63, a good marked type, an offset that rises
 unfoldable pub stands : ℕ → ℕ → Entry → Bool
 stands n last e = pick (ltb 63 (e .track)) false (pick (soundType (e .«media_type») (e .field)) (risesAt n last (e .at)) false)
 
@@ -79,7 +79,7 @@ unfoldable pub judgeBook : ℕ → ℕ → List Entry → Bool → Verdict
 judgeBook n last [] whole = pick whole good (bad n)
 judgeBook n last (e ∷ es) whole = pick (stands n last e) (judgeBook (n + 1) (e .at) es whole) (bad n)
 
--- of a track and a field: its own number or, with the mark, the number above; that the type is known is what makes a record good
+-- of a track and a field: its own number or, with the mark, the number above; a known type and an even number are tested by `soundType`
 unfoldable pub isOf : ℕ → ℕ → Entry → Bool
 isOf track field e = pick (eqb (e .track) track) (isField (hasMark (e .«media_type»)) (e .field) field) false
 

@@ -2,14 +2,13 @@
 use plate::Refusal;
 ghost use mathlib.Core.Path.{_≡_};
 ghost use Prim.Native.Nat.{_+_, _*_, _%_, _<_, _≤_, _^_};
-ghost use mathlib.Core.Bool.{true};
-ghost use lib.ListN.{length, getD};
+ghost use lib.ListN.{length};
 ghost use lib.Dec.{eqb};
 ghost use Rattle.plate.specs.Choice.{pick};
 ghost use Rattle.plate.specs.Plate.{refusal};
 ghost use Rattle.number.specs.Number.{le};
-ghost use Rattle.book.specs.Book.{saidAt, soundType, risesAt, isOf, ifGood, lookupOf};
-ghost use Rattle.book.specs.Inside.{soundHead, verdictFrom};
+ghost use Rattle.book.specs.Book.{risesAt, ifGood, lookupOf};
+ghost use Rattle.book.specs.Inside.{plainHead, doubledHead, soundHead, kindOf, verdictFrom};
 
 // What a record says: a track ID, a media type, with the mark for a packet that carries two fields, a field number and the packet's offset.
 pub struct Entry {
@@ -24,23 +23,17 @@ pub enum LookupAnswer {
     Refused(Refusal),
 }
 
-// Whether a type byte is good beside a record's number: a known type, or with the mark one beside an even number.
-fn is_type(type_byte: u8, number: u64) -> bool
-    ensures { λ r. ⌜ r ≡ soundType «type_byte» number ⌝ }
-{
-    if field::has_mark(type_byte) {
-        if media_type::is_known(type_byte - field::MARK) {
-            return field::is_even(number);
-        }
-        return false;
-    }
-    media_type::is_known(type_byte)
+// What a record is to a look-up: bad by its first word and number, good and of another field, or good and of the field.
+pub enum Kind {
+    Bad,
+    Other,
+    Near,
 }
 
-// The first four bytes of a record as one word: marks, an ID up to 63, a good type byte. Types 7 to 18 show on the word itself, without taking the type out.
-fn is_sound(head: usize, number: u64) -> bool
+// The first four bytes of a record as one word: marks, an ID up to 63, a known type. Types 7 to 18 show on the word itself, without taking the type out.
+fn is_plain(head: usize) -> bool
     requires { ⌜ head < 2 ^ 32 ⌝ }
-    ensures { λ r. ⌜ r ≡ soundHead head number ⌝ }
+    ensures { λ r. ⌜ r ≡ plainHead head ⌝ }
 {
     if head % 0x10000 != 0x5847 {
         return false;
@@ -53,7 +46,52 @@ fn is_sound(head: usize, number: u64) -> bool
             return true;
         }
     }
-    is_type((head / 0x1000000) as u8, number)
+    media_type::is_known((head / 0x1000000) as u8)
+}
+
+// The same with the mark beside the type, and an even number.
+fn is_doubled(head: usize, number: u64) -> bool
+    requires { ⌜ head < 2 ^ 32 ⌝ }
+    ensures { λ r. ⌜ r ≡ doubledHead head number ⌝ }
+{
+    if head < 0x40000000 {
+        return false;
+    }
+    if field::is_even(number) {
+        return is_plain(head - 0x40000000);
+    }
+    false
+}
+
+// Whether a record is good by its first word and number.
+fn is_sound(head: usize, number: u64) -> bool
+    requires { ⌜ head < 2 ^ 32 ⌝ }
+    ensures { λ r. ⌜ r ≡ soundHead head number ⌝ }
+{
+    if is_plain(head) {
+        return true;
+    }
+    is_doubled(head, number)
+}
+
+// What a record is to a look-up of a field. With the mark both fields of its number's half are its own.
+fn judged(head: usize, number: u64, field: u64) -> Kind
+    requires { ⌜ head < 2 ^ 32 ⌝ }
+    ensures { λ r. ⌜ r ≡ kindOf head number field ⌝ }
+{
+    if is_plain(head) {
+        if number == field {
+            return Kind::Near;
+        }
+        return Kind::Other;
+    }
+    if is_doubled(head, number) {
+        if number / 2 == field / 2 {
+            return Kind::Near;
+        }
+        return Kind::Other;
+    }
+    Kind::Bad
 }
 
 // Whether the offset of record n may follow the last.
@@ -78,20 +116,6 @@ fn offset_at(book: &[u8], at: usize) -> usize
     ensures { λ r. ⌜ r ≡ le (now (book .entry)) (at + 8) 8 ⌝ }
 {
     number::le8(book, at + 8)
-}
-
-// Whether a good record of a number is of a track and a field. Most have another number: halves are tested first, as the number above an even one has its half.
-fn is_wanted(book: &[u8], at: usize, here: u64, track: u64, field: u64) -> bool
-    requires { ⌜ (at + 16 ≤ length (now book)) × (here ≡ le (now book) (at + 4) 4) × (soundType (getD (now book) (at + 3) 0) here ≡ true) ⌝ }
-    ensures { λ r. ⌜ r ≡ isOf track field (saidAt (now (book .entry)) at) ⌝ }
-{
-    if here / 2 != field / 2 {
-        return false;
-    }
-    if book[at + 2] as u64 != track {
-        return false;
-    }
-    field::is_field(field::has_mark(book[at + 3]), here, field)
 }
 
 // An answer, if no broken tail follows the n records.
@@ -138,19 +162,31 @@ pub fn lookup(book: &[u8], track: u64, field: u64) -> LookupAnswer
     let mut last: usize = 0;
     while n < records {
         let at = n * 16;
+        let head = number::le4(book, at);
         let here = number::le4(book, at + 4) as u64;
         let offset = offset_at(book, at);
-        if !is_sound(number::le4(book, at), here) {
-            return bad_book(n);
+        match judged(head, here, field) {
+            Kind::Bad => {
+                return bad_book(n);
+            }
+            Kind::Other => {
+                if !rises(n, last, offset) {
+                    return bad_book(n);
+                }
+                n += 1;
+                last = offset;
+            }
+            Kind::Near => {
+                if !rises(n, last, offset) {
+                    return bad_book(n);
+                }
+                n += 1;
+                if book[at + 2] as u64 == track {
+                    return rest(book, n, offset, offset);
+                }
+                last = offset;
+            }
         }
-        if !rises(n, last, offset) {
-            return bad_book(n);
-        }
-        n += 1;
-        if is_wanted(book, at, here, track, field) {
-            return rest(book, n, offset, offset);
-        }
-        last = offset;
     }
     unless_torn(
         book,

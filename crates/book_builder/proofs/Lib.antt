@@ -1,5 +1,6 @@
 pub mod Contracts
 pub mod Laws
+pub mod OddFields
 pub mod Once
 pub mod Same
 pub mod Seen

@@ -22,7 +22,7 @@ use Rattle.book_builder.specs.declared.BuildAnswer.the-variants as build
 unfoldable pub recorded : Piece → Bool
 recorded x = pick (eqb (x .«packet_type») typeMedia) (knownType (x .«media_type»)) false
 
--- the record of a packet at an offset: its type byte has the mark just where the packet carries two fields (02, §2), by the type byte that the latest map gives its ID
+-- the record of a packet at an offset: its type has the mark just where the packet carries two fields (02, §2), by the marked type that the latest map gives its ID
 abbrev pub entryOf : ℕ → ℕ → Piece → Entry
 entryOf at byte x = record { track = x .track; «media_type» = typeWith (carriesTwo byte (x .field)) (x .«media_type»); field = x .field; at = at }
 
@@ -34,7 +34,7 @@ unfoldable pub entriesOf : List Placed → List Entry
 entriesOf [] = []
 entriesOf (x ∷ xs) = entriesHere (x .at) (getD (x .types) (x .piece .track) 0) (x .piece) ++ entriesOf xs
 
--- of a stream that the check refuses, those of the packets that its bytes give, which no answer shows
+-- the entries of a stream; of one that the check refuses, those of the packets that its bytes give, which no answer shows
 unfoldable pub entriesIn : List ℕ → List Entry
 entriesIn s = entriesOf (packets s .list)
 

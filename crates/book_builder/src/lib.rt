@@ -72,7 +72,7 @@ fn put_record(out: &mut [u8], to: usize, e: Entry)
     number::put_le(out, to + 8, e.at, 8);
 }
 
-// The type byte of a packet's record: with the mark where it carries two fields, by the type byte of its ID.
+// The type of a packet's record: with the mark where it carries two fields, by the marked type of its ID.
 fn marked_type(x: Piece, listed: u8) -> u8
     requires { ⌜ knownType (x .«media_type») ≡ true ⌝ }
     ensures { λ r. ⌜ r ≡ typeWith (carriesTwo listed (x .field)) (x .«media_type») ⌝ }

@@ -1,5 +1,5 @@
--- Laws of the numbers of fields: a packet carries no field whose half is another, and a type byte gives back its type and its mark.
-use Prim.Native.Nat.{ℕ, _+_, _-_, _/_, _%_, _<_}
+-- Laws of field numbers: a packet carries no field whose half is another, and a marked type gives back its type and its mark.
+use Prim.Native.Nat.{ℕ, _+_, _/_, _%_, _<_}
 use mathlib.Core.Path.{_≡_, refl}
 use mathlib.Core.Bool.{Bool, true, false}
 use native.Mathlib.Omega.{arith}
@@ -7,14 +7,6 @@ use lib.Dec.{eqb, leb}
 use borrow.Author.Tests.{eq-eqb, ne-eqb, eqb-true, eqb-false, le-leb, lt-leb}
 use Rattle.plate.specs.Choice.{pick}
 use Rattle.field.specs.Field.{typeWith, hasMark, typeAlone, isEven, carriesTwo, isField}
-
--- the number below a field that is not 0, tested from above or from below
-pub below : (number field : ℕ) → (field ≡ 0 → ⊥) → eqb number (field - 1) ≡ eqb (number + 1) field
-below number field h = go (eqb number (field - 1)) refl
-  where
-    go : (b : Bool) → eqb number (field - 1) ≡ b → b ≡ eqb (number + 1) field
-    go true q = rw (eq-eqb (number + 1) field (omega (arith, eqb-true number (field - 1) q, h)))
-    go false q = rw (ne-eqb (number + 1) field (λ z. eqb-false number (field - 1) q (omega (arith, z))))
 
 -- two fields are carried with an even number alone
 pub two-even : (byte number : ℕ) → carriesTwo byte number ≡ true → isEven number ≡ true
@@ -34,7 +26,30 @@ other-half two number field even h = rw (ne-eqb number field (λ z. h (rw z))) (
     go false e = refl
     go true e = ne-eqb (number + 1) field (λ z. h (omega (arith, z, eqb-true (number % 2) 0 (e refl))))
 
--- of a type under 64: its byte gives back the mark, and the type
+-- of two numbers with one half the even one carries both, and the odd one itself
+pub same-half : (byte number field : ℕ) → number / 2 ≡ field / 2 → isField (carriesTwo byte number) number field ≡ pick (hasMark byte) (leb number field) (eqb number field)
+unfolding isField carriesTwo isEven
+same-half byte number field h = go (hasMark byte) (eqb (number % 2) 0) refl (eqb number field) refl
+  where
+    go : (m e : Bool) → eqb (number % 2) 0 ≡ e → (q : Bool) → eqb number field ≡ q
+        → pick q true (pick (pick m e false) (eqb (number + 1) field) false) ≡ pick m (leb number field) q
+    go true e p true r = rw (le-leb number field (omega (arith, eqb-true number field r)))
+    go true true p false r =
+        let z = eqb-true (number % 2) 0 p in let n = eqb-false number field r in
+        rw (eq-eqb (number + 1) field (omega (arith, z, n, h)), le-leb number field (omega (arith, z, n, h)))
+    go true false p false r = let z = eqb-false (number % 2) 0 p in let n = eqb-false number field r in rw (lt-leb number field (omega (arith, z, n, h)))
+    go false e p true r = refl
+    go false e p false r = refl
+
+pub own-half : (number field : ℕ) → isEven number ≡ true → number / 2 ≡ field / 2 → isField true number field ≡ true
+unfolding isField isEven
+own-half number field e h = go (eqb number field) refl
+  where
+    go : (b : Bool) → eqb number field ≡ b → pick b true (eqb (number + 1) field) ≡ true
+    go true q = refl
+    go false q = let n = eqb-false number field q in eq-eqb (number + 1) field (omega (arith, n, h, eqb-true (number % 2) 0 e))
+
+-- of a type under 64: with the mark or without, both come back
 pub mark-back : (marked : Bool) (type : ℕ) → type < 64 → hasMark (typeWith marked type) ≡ marked
 unfolding hasMark typeWith
 mark-back true type h = le-leb 64 (type + 64) (omega arith)

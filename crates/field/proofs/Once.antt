@@ -11,8 +11,8 @@ use Rattle.field.proofs.is_even.Kinds as is-even-kinds
 use Rattle.field.proofs.is_even.Reads as is-even-reads
 use Rattle.field.proofs.carries_two.Kinds as carries-two-kinds
 use Rattle.field.proofs.carries_two.Reads as carries-two-reads
-use Rattle.field.proofs.is_field.Kinds as is-field-kinds
-use Rattle.field.proofs.is_field.Reads as is-field-reads
+use Rattle.field.proofs.by_half.Kinds as by-half-kinds
+use Rattle.field.proofs.by_half.Reads as by-half-reads
 
 pub type-with-once : OneAnswer 0 type-with-kinds.ps type-with-kinds.r type-with-reads.Post
 type-with-once κs a x y s t p q = p ∙ sym q
@@ -29,5 +29,5 @@ is-even-once κs a x y s t p q = p ∙ sym q
 pub carries-two-once : OneAnswer 0 carries-two-kinds.ps carries-two-kinds.r carries-two-reads.Post
 carries-two-once κs a x y s t p q = p ∙ sym q
 
-pub is-field-once : OneAnswer 0 is-field-kinds.ps is-field-kinds.r is-field-reads.Post
-is-field-once κs a x y s t p q = p ∙ sym q
+pub by-half-once : OneAnswer 0 by-half-kinds.ps by-half-kinds.r by-half-reads.Post
+by-half-once κs a x y s t p q = p ∙ sym q

@@ -1,24 +1,24 @@
--- The numbers of fields (RDD 14, 4.8; 02, §2): which fields a packet carries by its number, and the mark beside a media type. The mark is 64: in a table by ID it is of a track with fields per frame 1, in a book of a packet that carries two fields. Known types are under 64.
+-- Field numbers (RDD 14, 4.8; 02, §2): which fields a packet carries by its number, and the mark, 64, beside a media type. In a table by ID it marks a track with fields per frame 1, in a book a packet that carries two fields; known types are under 64 (specs/Marks.antt).
 use Prim.Native.Nat.{ℕ, _+_, _%_}
 use mathlib.Core.Bool.{Bool, true, false}
 use lib.Dec.{eqb, leb}
 use Rattle.plate.specs.Choice.{pick}
 
--- a type byte: a type, with the mark or without
+-- a marked type: a type, with the mark or without
 unfoldable pub typeWith : Bool → ℕ → ℕ
 typeWith marked type = pick marked (type + 64) type
 
+-- whether a marked type under 128 has the mark, and its type
 unfoldable pub hasMark : ℕ → Bool
 hasMark byte = leb 64 byte
 
--- the type alone, of a type byte under 128
 unfoldable pub typeAlone : ℕ → ℕ
 typeAlone byte = byte % 64
 
 unfoldable pub isEven : ℕ → Bool
 isEven number = eqb (number % 2) 0
 
--- frames of progressive formats have even numbers: with the mark at its track, a packet with an even number carries two fields
+-- frames of progressive formats have even numbers: on a marked track a packet with an even number carries two fields
 unfoldable pub carriesTwo : ℕ → ℕ → Bool
 carriesTwo byte number = pick (hasMark byte) (isEven number) false
 

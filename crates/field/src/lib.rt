@@ -1,6 +1,6 @@
-// The numbers of fields: which fields a packet carries by its number, and the mark beside a media type that says of what tracks and packets it is two.
+// Field numbers: which fields a packet carries by its number, and the mark beside a media type, of tracks with fields per frame 1 and of packets that carry two fields.
 ghost use mathlib.Core.Path.{_≡_};
-ghost use Prim.Native.Nat.{_<_};
+ghost use Prim.Native.Nat.{_/_, _<_};
 ghost use Rattle.field.specs.Field.{typeWith, hasMark, typeAlone, isEven, carriesTwo, isField};
 
 // Added to a media type: of a track with fields per frame 1, and of a packet that carries two fields.
@@ -24,7 +24,7 @@ pub fn has_mark(type_byte: u8) -> bool
     MARK <= type_byte
 }
 
-// The type of a type byte under 128.
+// The type of a marked type under 128.
 pub fn type_alone(type_byte: u8) -> u8
     ensures { λ r. ⌜ r ≡ typeAlone «type_byte» ⌝ }
 {
@@ -37,7 +37,7 @@ pub fn is_even(number: u64) -> bool
     number % 2 == 0
 }
 
-// Whether a packet of a number carries two fields, by the type byte of its track.
+// Whether a packet of a number carries two fields, by the marked type of its track.
 pub fn carries_two(type_byte: u8, number: u64) -> bool
     ensures { λ r. ⌜ r ≡ carriesTwo «type_byte» number ⌝ }
 {
@@ -47,18 +47,13 @@ pub fn carries_two(type_byte: u8, number: u64) -> bool
     false
 }
 
-// Whether a packet of a number carries a field, by its number or, where it carries two, by the number above.
-pub fn is_field(two: bool, number: u64, field: u64) -> bool
-    ensures { λ r. ⌜ r ≡ isField two number field ⌝ }
+// Whether a packet of a number carries a field that has the number's half, by the marked type of its track: of two such numbers the even one carries both, and the odd one itself.
+pub fn by_half(type_byte: u8, number: u64, field: u64) -> bool
+    requires { ⌜ number / 2 ≡ field / 2 ⌝ }
+    ensures { λ r. ⌜ r ≡ isField (carriesTwo «type_byte» number) number field ⌝ }
 {
-    if number == field {
-        return true;
+    if has_mark(type_byte) {
+        return number <= field;
     }
-    if !two {
-        return false;
-    }
-    if field == 0 {
-        return false;
-    }
-    number == field - 1
+    number == field
 }

@@ -7,6 +7,7 @@ pub mod Numbers
 pub mod Once
 pub mod Parts
 pub mod Samples
+pub mod Table
 pub mod ViewOfParts
 pub mod Within
 pub mod WrongForm

@@ -29,6 +29,7 @@ use Rattle.map.specs.declared.Layout.{Layout}
 use Rattle.map.specs.declared.Layout.the-variants.{Both, One, Neither}
 use Rattle.map.proofs.Laws.{Within, layout-within}
 use Rattle.map.proofs.Encoded.{Fit, parts-of-encoded}
+use Rattle.map_answer.proofs.Laws.{value-anywhere}
 
 -- a number and a null name are told by the bytes, wherever they stand
 valueHeld : Held → Value
@@ -79,7 +80,7 @@ module _ (p : List ℕ) (q : ℕ) (is : List Item) (pre post : List ℕ) (l : le
       go (found r v) e = rw h (ap (bytes (length v)) (find-stands tag is pre post r v (rw l e) .bytes))
 
   value-there : (tag : ℕ) → valueOf (find tag q is) ≡ valueOf (find tag 0 is)
-  value-there tag = same-value _ _ (held-anywhere tag q 0 is)
+  value-there tag = value-anywhere tag q 0 is
 
   null-there : isNull (partOf (find 0x4C q is)) ≡ isNull (partOf (find 0x4C 0 is))
   null-there = same-null _ _ (held-anywhere 0x4C q 0 is)

@@ -75,7 +75,7 @@ materialSays p = materialOf 20 (sectionOf (materialIn p (layoutOf p)) .list)
 unfoldable pub listedIn : List ℕ → List Placed
 listedIn p = listed (tracksAt (layoutOf p)) (tracksOf (tracksIn p (layoutOf p)) .list)
 
--- by ID, the type byte of the track that is listed under it: its type, with the mark where its fields per frame are 1
+-- by ID, the marked type of the track that is listed under it: its type, with the mark where its fields per frame are 1
 unfoldable pub typesIn : List ℕ → List ℕ
 typesIn p = typesOf (replicate 64 0) (tracksOf (tracksIn p (layoutOf p)) .list)
 

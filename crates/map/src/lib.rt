@@ -176,7 +176,7 @@ pub fn id_of(p: &[u8], id: usize) -> Kth
     map_tracks::record_of_id(track_part(p), first_track(p), id)
 }
 
-// The listed IDs with their type bytes.
+// The listed IDs with their marked types.
 pub fn types_of(p: &[u8]) -> Types
     ensures { λ r. ⌜ r .«media_types» ≡ typesIn (now (p .entry)) ⌝ }
 {

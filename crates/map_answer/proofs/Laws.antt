@@ -1,7 +1,7 @@
 -- What a part that was found tells of the bytes, and which numbers are codes.
 use Prim.Native.Nat.{ℕ, _+_, _-_, _<_, _≤_}
 use mathlib.Core.Path.{_≡_, refl, sym, _∙_}
-use mathlib.Core.List.{List, []}
+use mathlib.Core.List.{List, [], _∷_}
 use mathlib.Core.Bool.{Bool, true, false}
 use native.Mathlib.Omega.{arith}
 use native.Mathlib.Nat.{add-zero, add-sub-cancel-left}
@@ -12,7 +12,7 @@ use Rattle.plate.specs.Choice.{pick}
 use Rattle.plate.proofs.Tests.{no-choice}
 use Rattle.number.specs.Number.{be}
 use Rattle.number.proofs.Laws.{be-drop, be-take}
-use Rattle.map_items.specs.Items.{sectionOf}
+use Rattle.map_items.specs.Items.{Item, sectionOf}
 use Rattle.map_items.specs.Judge.{has}
 use Rattle.map_items.specs.Find.{Found, missing, found, find, partOf, bytesOf}
 use Rattle.map_items.proofs.Lookup.{section-stands}
@@ -103,3 +103,15 @@ module _ (tag base : ℕ) (s : List ℕ) where
       go : (x : Found) → it ≡ x → partBytes s base (partOf x) ≡ bytesOf x
       go missing e = refl
       go (found q v) e = rw add-sub-cancel-left (section-stands tag base s q v e .2)
+
+-- a number is the same wherever the items stand
+pub value-anywhere : (tag q r : ℕ) (is : List Item) → valueOf (find tag q is) ≡ valueOf (find tag r is)
+unfolding find valueOf
+value-anywhere tag q r [] = refl
+value-anywhere tag q r (i ∷ is) = go (eqb (i .tag) tag) (value-anywhere tag (q + 2 + length (i .value)) (r + 2 + length (i .value)) is)
+  where
+    go : (b : Bool) → valueOf (find tag (q + 2 + length (i .value)) is) ≡ valueOf (find tag (r + 2 + length (i .value)) is)
+        → valueOf (pick b (found (q + 2) (i .value)) (find tag (q + 2 + length (i .value)) is))
+        ≡ valueOf (pick b (found (r + 2) (i .value)) (find tag (r + 2 + length (i .value)) is))
+    go true e = refl
+    go false e = e

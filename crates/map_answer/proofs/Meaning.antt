@@ -11,7 +11,7 @@ use borrow.Author.Tests.{eqb-true, eq-eqb, ne-eqb, lt-ltb}
 use Rattle.plate.specs.Choice.{pick}
 use Rattle.plate.proofs.Tests.{no-choice}
 use Rattle.map_items.specs.Judge.{has}
-use Rattle.map_answer.specs.Answer.{allowed, codeOf, nothing, number, meaningOf, signed, codesOf, In, CodeSays}
+use Rattle.map_answer.specs.Answer.{allowed, codeOf, isProgressive, OneAlone, nothing, number, meaningOf, signed, codesOf, In, CodeSays}
 use Rattle.map_answer.specs.declared.Value.the-variants as value
 use Rattle.map_answer.specs.declared.Code.the-variants as code
 use Rattle.map_answer.proofs.Laws.{over-allowed, allowed-small}
@@ -138,3 +138,16 @@ unfolding codesOf allowed
 code-says tag n (inl e) h = rw e (says 0x50 n (1 ∷ 2 ∷ 3 ∷ 4 ∷ 5 ∷ 6 ∷ 7 ∷ 8 ∷ []) h refl (rates n))
 code-says tag n (inr (inl e)) h = rw e (says 0x51 n (1 ∷ 2 ∷ 4 ∷ 6 ∷ []) h refl refl)
 code-says tag n (inr (inr e)) h = rw e (says 0x52 n (1 ∷ 2 ∷ []) h refl refl)
+
+-- of all numbers in item 52 the frames are whole with 1 alone
+pub one-alone : OneAlone
+unfolding isProgressive codeOf allowed has
+one-alone n = go (eqb n 0xFFFFFFFF) refl (eqb n 0xFFFFFFFE) refl (eqb n 1) refl (eqb n 2)
+  where
+    go : (a : Bool) → eqb n 0xFFFFFFFF ≡ a → (b : Bool) → eqb n 0xFFFFFFFE ≡ b → (d : Bool) → eqb n 1 ≡ d → (e : Bool)
+        → isProgressive (pick a code.NotApplicable (pick b code.NotAvailable (pick (pick d true (pick e true false)) (code.Is n) code.Absent))) ≡ d
+    go true p b q d r e = sym (sym r ∙ ne-eqb n 1 (λ z. omega (arith, z, eqb-true n 0xFFFFFFFF p)))
+    go false p true q d r e = sym (sym r ∙ ne-eqb n 1 (λ z. omega (arith, z, eqb-true n 0xFFFFFFFE q)))
+    go false p false q true r e = r
+    go false p false q false r true = r
+    go false p false q false r false = refl

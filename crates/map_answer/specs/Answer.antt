@@ -49,6 +49,10 @@ isProgressive code.NotApplicable = false
 isProgressive code.NotAvailable = false
 isProgressive code.Absent = false
 
+-- of all numbers in item 52 that is so of 1 alone
+abbrev pub OneAlone : Type 0
+OneAlone = (n : ℕ) → isProgressive (codeOf 0x52 (value.Is n)) ≡ eqb n 1
+
 -- the number of the paper that each case of a code is; an absent code is none
 pub data Meaning : Type 0 where
   nothing : Meaning

@@ -7,12 +7,16 @@ use native.Mathlib.Omega.{arith}
 use lib.ListN.{length, set, replicate}
 use lib.Dec.{eqb}
 use Rattle.plate.specs.Choice.{pick}
-use Rattle.map_tracks.specs.Tracks.{Description, Placed, isListed, listed, recordOf, kthOf, idOf, typesOf}
+use Rattle.map_tracks.specs.Tracks.{Description, Placed, isListed, listed, recordOf, kthOf, idOf, byteOf, typesOf}
 use Rattle.map_tracks.specs.declared.Kth.{Kth}
 use Rattle.map_tracks.specs.declared.Kth.the-variants as kth
 use Rattle.map_tracks.specs.declared.Types.{Types}
 use Rattle.plate.specs.Plate.{refusal}
-use Rattle.map_answer.specs.Answer.{trackOf}
+use Rattle.field.specs.Field.{typeWith}
+use Rattle.map_items.specs.Items.{sectionOf}
+use Rattle.map_items.specs.Find.{find}
+use Rattle.map_answer.specs.Answer.{valueOf, codeOf, isProgressive, trackOf}
+use Rattle.map_answer.proofs.Laws.{value-anywhere}
 use Rattle.map_answer.specs.declared.Track.{Track}
 use Rattle.map.specs.Map.{onKth, materialSays, listedIn, typesIn, mapAt, trackAt}
 use Rattle.map.specs.View.{trackViewIn, viewIn}
@@ -68,14 +72,17 @@ id-seen m id (x ∷ xs) = go (eqb (x .track .id - 0xC0) id) (id-seen m id xs)
     go false e = e
 
 types-seen : (m : List ℕ) (p : ℕ) (types : List ℕ) (ds : List Description) → typesOf types ds ≡ typesInView types (map (λ x. trackViewIn m (recordOf x)) (listed p ds))
-unfolding typesOf typesInView listed trackViewIn recordOf trackOf
+unfolding typesOf byteOf typesInView listed trackViewIn recordOf trackOf
 types-seen m p types [] = refl
-types-seen m p types (d ∷ ds) = go (isListed d) (λ t. types-seen m (p + 4 + length (d .items)) t ds)
+types-seen m p types (d ∷ ds) = rw (value-anywhere 0x52 0 (p + 4) (sectionOf (d .items) .list)) (go (isListed d) (λ t. types-seen m (p + 4 + length (d .items)) t ds))
   where
+    byte : ℕ
+    byte = typeWith (isProgressive (codeOf 0x52 (valueOf (find 0x52 (p + 4) (sectionOf (d .items) .list))))) (d .typeByte - 0x80)
+
     go : (b : Bool) → ((t : List ℕ) → typesOf t ds ≡ typesInView t (map (λ x. trackViewIn m (recordOf x)) (listed (p + 4 + length (d .items)) ds)))
-        → typesOf (pick b (set types (d .id - 0xC0) (d .typeByte - 0x80)) types) ds
+        → typesOf (pick b (set types (d .id - 0xC0) byte) types) ds
         ≡ typesInView types (map (λ x. trackViewIn m (recordOf x)) (pick b (record { at = p; track = d } ∷ listed (p + 4 + length (d .items)) ds) (listed (p + 4 + length (d .items)) ds)))
-    go true e = e (set types (d .id - 0xC0) (d .typeByte - 0x80))
+    go true e = e (set types (d .id - 0xC0) byte)
     go false e = e types
 
 types-shown : (m : List ℕ) → typesIn m ≡ typesInView (replicate 64 0) (map (λ x. trackViewIn m (recordOf x)) (listedIn m))

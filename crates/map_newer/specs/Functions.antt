@@ -10,7 +10,9 @@ use borrow.Fn.Kinds.{endedOf, Dens}
 use denote.Triple.Clauses.{AtExit}
 use Rattle.plate.specs.Plate.{refusal}
 use Rattle.plate.specs.declared.Refusal.{Refusal}
+use Rattle.field.specs.Field.{typeWith}
 use Rattle.map_items.specs.Items.{Item}
+use Rattle.map_answer.specs.Answer.{isProgressive}
 use Rattle.map_answer.specs.declared.Track.{Track}
 use Rattle.map_tracks.specs.declared.Kth.{Kth}
 use Rattle.map_tracks.specs.declared.Kth.the-variants as kth
@@ -114,10 +116,10 @@ unfoldable pub ofId : ℕ → List TrackView → IdOutcomeView
 ofId id [] = nothing
 ofId id (t ∷ ts) = pick (eqb (t .id) id) (IdOutcomeView.holds t) (ofId id ts)
 
--- by ID, the types of some records
+-- by ID, the marked types of some records: the type, with the mark where the fields per frame are 1 (02, §2)
 unfoldable pub typesInView : List ℕ → List TrackView → List ℕ
 typesInView types [] = types
-typesInView types (t ∷ ts) = typesInView (set types (t .id) (t .mediaType)) ts
+typesInView types (t ∷ ts) = typesInView (set types (t .id) (typeWith (isProgressive (t .fields)) (t .mediaType))) ts
 
 -- a call that is given room leaves the answer's records first, and those past the last as they were
 pub record Fills (m : List ℕ) (answer : MapView) (ys : List Track) (r : MapAnswer) (zs : List Track) : Type 0 where

@@ -29,7 +29,7 @@ id-numbered id (x ∷ xs) t e = go (eqb (x .track .id - 0xC0) id) refl e (id-num
     go false q e f = let r = f e in (suc (r .0), r .1, r .2)
 
 -- an ID that is not among more is not among fewer, and is none of those before
-not-among : (n m : ℕ) (ms : List ℕ) → has n (m ∷ ms) ≡ false → (has n ms ≡ false) × (n ≡ m → ⊥)
+pub not-among : (n m : ℕ) (ms : List ℕ) → has n (m ∷ ms) ≡ false → (has n ms ≡ false) × (n ≡ m → ⊥)
 unfolding has
 not-among n m ms = go (eqb n m) refl
   where

@@ -11,4 +11,5 @@ pub mod Numbers
 pub mod Once
 pub mod Places
 pub mod Split
+pub mod Table
 pub mod WrongForm

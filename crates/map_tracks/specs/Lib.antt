@@ -1,4 +1,5 @@
 pub mod AnyText
 pub mod Inside
+pub mod Table
 pub mod Tracks
 pub mod WrongForm

@@ -122,11 +122,11 @@ unfoldable pub idOf : ℕ → List Placed → Kth
 idOf id [] = Nothing
 idOf id (x ∷ xs) = pick (eqb (x .track .id - 0xC0) id) (Record (recordOf x)) (idOf id xs)
 
--- the type byte of a listed track: its media type, with the mark where its items say fields per frame 1 (02, §2); no name hides that item
+-- the marked type of a listed track: its media type, with the mark where its items say fields per frame 1 (02, §2); no name hides that item
 unfoldable pub byteOf : ℕ → List ℕ → ℕ
 byteOf typeByte items = typeWith (isProgressive (codeOf 0x52 (valueOf (find 0x52 0 (sectionOf items .list))))) (typeByte - 0x80)
 
--- by ID, the type byte of the track that is listed under it, and 0 where none is
+-- by ID, the marked type of the track that is listed under it, and 0 where none is
 unfoldable pub typesOf : List ℕ → List Description → List ℕ
 typesOf types [] = types
 typesOf types (d ∷ ds) = typesOf (pick (isListed d) (set types (d .id - 0xC0) (byteOf (d .typeByte) (d .items))) types) ds

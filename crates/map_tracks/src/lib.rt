@@ -258,7 +258,7 @@ pub fn record_of_id(s: &[u8], base: usize, id: usize) -> Kth
     record_by(s, base, true, id)
 }
 
-// The listed IDs of a section, with their type bytes.
+// The listed IDs of a section, with their marked types.
 pub fn types_by_id(s: &[u8]) -> Types
     ensures { λ r. ⌜ r .«media_types» ≡ typesOf (replicate 64 0) (tracksOf (now (s .entry)) .list) ⌝ }
 {

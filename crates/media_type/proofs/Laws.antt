@@ -7,7 +7,7 @@ use borrow.Author.Tests.{leb-true, leb-false, le-leb, lt-leb}
 use lib.Dec.{leb}
 use Rattle.media_type.specs.MediaType.{knownType}
 
-known-over : (k : ℕ) → 26 < k → knownType k ≡ false
+pub known-over : (k : ℕ) → 26 < k → knownType k ≡ false
 unfolding knownType
 known-over k h =
     simp (le-leb 3 k (omega arith), lt-leb k 4 (omega arith), le-leb 7 k (omega arith), lt-leb k 18 (omega arith), le-leb 20 k (omega arith), lt-leb k 26 (omega arith))

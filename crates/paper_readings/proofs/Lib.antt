@@ -3,6 +3,7 @@ pub mod Calls
 pub mod Cases
 pub mod Forms
 pub mod Given
+pub mod OddFields
 pub mod Pairs
 pub mod Streams
 pub mod Table

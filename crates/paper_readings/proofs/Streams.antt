@@ -11,6 +11,7 @@ use Rattle.plate.specs.Plate.{refusal}
 use Rattle.map_items.specs.Items as items
 use Rattle.map_items.specs.Judge as judge
 use Rattle.map_items.specs.Find as find
+use Rattle.field.specs.Field as field
 use Rattle.map_answer.specs.Answer as answer
 use Rattle.map_tracks.specs.Tracks as tracks
 use Rattle.map.specs.Map as map
@@ -28,7 +29,7 @@ use Rattle.map.proofs.Samples.{headed, M}
 use Rattle.paper_readings.specs.Streams.{room, Computed}
 
 pub computed : Computed
-unfolding headerAt sizedAt packetAt be knownType mpegType wrongForm textOk items.splitItems items.sectionOf items.itemsSize judge.formOf judge.isKnown judge.faultOf judge.countsAs judge.has judge.judgeItems judge.verdictOf find.find answer.isNull tracks.splitTracks tracks.tracksOf tracks.trackOver tracks.trackVerdict tracks.endVerdict tracks.judgeTracks tracks.tracksVerdict tracks.isListed tracks.typesOf map.afterMaterial map.layoutOf map.bothVerdict map.sectionsVerdict map.mapVerdict map.typesIn locator.tableOf media.preambleOf piece.contentOf piece.opens piece.pieceAt order.misplaced order.overdue order.unmapped order.eitherType order.falls order.progressAfter order.ending order.stepOf stream.packetsFrom stream.packets stream.ranOut stream.judgePackets stream.checkOf stream.carriesPiece stream.firstOf stream.seekOf leBytes builder.recorded builder.entriesHere builder.entriesOf builder.entriesIn builder.buildAnswer builder.builtIn book.recordBytes book.bookBytes le book.recordAt book.bookFrom book.bookOf book.risesAt book.stands book.judgeBook book.firstIn book.lookupOf
+unfolding headerAt sizedAt packetAt be knownType mpegType wrongForm textOk items.splitItems items.sectionOf items.itemsSize judge.formOf judge.isKnown judge.faultOf judge.countsAs judge.has judge.judgeItems judge.verdictOf find.find answer.isNull answer.valueOf answer.allowed answer.codeOf answer.isProgressive tracks.splitTracks tracks.tracksOf tracks.trackOver tracks.trackVerdict tracks.endVerdict tracks.judgeTracks tracks.tracksVerdict tracks.isListed tracks.byteOf tracks.typesOf map.afterMaterial map.layoutOf map.bothVerdict map.sectionsVerdict map.mapVerdict map.typesIn locator.tableOf media.preambleOf piece.contentOf piece.opens piece.pieceAt order.misplaced order.overdue order.unmapped order.eitherType order.falls order.progressAfter order.ending order.stepOf stream.packetsFrom stream.packets stream.ranOut stream.judgePackets stream.checkOf field.typeWith field.hasMark field.typeAlone field.isEven field.carriesTwo field.isField stream.carriesAs stream.firstOf stream.seekOf leBytes builder.recorded builder.entriesHere builder.entriesOf builder.entriesIn builder.buildAnswer builder.builtIn book.recordBytes book.bookBytes le book.recordAt book.bookFrom book.bookOf book.soundType book.isOf book.risesAt book.stands book.judgeBook book.firstIn book.lookupOf
 computed =
     record {
       checked = refl;
@@ -74,5 +75,5 @@ unlent = M ++ headed 0xFD 16 ++ (headed 0xBF 32 ++ (10 ∷ 1 ∷ 256 ∷ 0 ∷ 0
 
 -- why `agree` of book_builder asks that the lent stream holds bytes: look-up and seek differ here
 pub bytes-needed : (builder.buildAnswer (room 16) unlent ≡ build.Records 1) × (book.lookupOf (builder.builtIn (room 16) unlent) 1 4294967296 ≡ lookup.Refused (refusal 16 0)) × (stream.seekOf unlent 1 4294967296 ≡ seek.At 60)
-unfolding headerAt sizedAt packetAt be knownType mpegType wrongForm textOk items.splitItems items.sectionOf items.itemsSize judge.formOf judge.isKnown judge.faultOf judge.countsAs judge.has judge.judgeItems judge.verdictOf find.find answer.isNull tracks.splitTracks tracks.tracksOf tracks.trackOver tracks.trackVerdict tracks.endVerdict tracks.judgeTracks tracks.tracksVerdict tracks.isListed tracks.typesOf map.afterMaterial map.layoutOf map.bothVerdict map.sectionsVerdict map.mapVerdict map.typesIn locator.tableOf media.preambleOf piece.contentOf piece.opens piece.pieceAt order.misplaced order.overdue order.unmapped order.eitherType order.falls order.progressAfter order.ending order.stepOf stream.packetsFrom stream.packets stream.ranOut stream.judgePackets stream.checkOf stream.carriesPiece stream.firstOf stream.seekOf leBytes builder.recorded builder.entriesHere builder.entriesOf builder.entriesIn builder.buildAnswer builder.builtIn book.recordBytes book.bookBytes le book.recordAt book.bookFrom book.bookOf book.risesAt book.stands book.judgeBook book.firstIn book.lookupOf
+unfolding headerAt sizedAt packetAt be knownType mpegType wrongForm textOk items.splitItems items.sectionOf items.itemsSize judge.formOf judge.isKnown judge.faultOf judge.countsAs judge.has judge.judgeItems judge.verdictOf find.find answer.isNull answer.valueOf answer.allowed answer.codeOf answer.isProgressive tracks.splitTracks tracks.tracksOf tracks.trackOver tracks.trackVerdict tracks.endVerdict tracks.judgeTracks tracks.tracksVerdict tracks.isListed tracks.byteOf tracks.typesOf map.afterMaterial map.layoutOf map.bothVerdict map.sectionsVerdict map.mapVerdict map.typesIn locator.tableOf media.preambleOf piece.contentOf piece.opens piece.pieceAt order.misplaced order.overdue order.unmapped order.eitherType order.falls order.progressAfter order.ending order.stepOf stream.packetsFrom stream.packets stream.ranOut stream.judgePackets stream.checkOf field.typeWith field.hasMark field.typeAlone field.isEven field.carriesTwo field.isField stream.carriesAs stream.firstOf stream.seekOf leBytes builder.recorded builder.entriesHere builder.entriesOf builder.entriesIn builder.buildAnswer builder.builtIn book.recordBytes book.bookBytes le book.recordAt book.bookFrom book.bookOf book.soundType book.isOf book.risesAt book.stands book.judgeBook book.firstIn book.lookupOf
 bytes-needed = (refl, refl, refl)

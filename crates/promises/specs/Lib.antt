@@ -2,6 +2,7 @@ pub mod AsDefined
 pub mod Aspects
 pub mod BytesLacking
 pub mod EveryInput
+pub mod FieldsCarried
 pub mod NewerMaps
 pub mod ReadsBack
 pub mod SeekAndBook

@@ -1,5 +1,5 @@
 -- Demand 2, seek and book: seek names the first media packet that carries track and field, and refuses exactly when none does; the seek book gives the same answer.
--- Proved in proofs/SeekAndBook.antt. That streams are accepted, fields found and books written is computed on a stream in paper_readings (`computed`), with what that shuts out (proofs/Given.antt).
+-- Which fields a packet carries is said in words in FieldsCarried.antt (02, §2). Proved in proofs/SeekAndBook.antt. That streams are accepted, fields found and books written is computed on a stream in paper_readings (`computed`), with what that shuts out (proofs/Given.antt).
 use Prim.Native.Nat.{ℕ, _*_, _^_, _<_, _≤_}
 use mathlib.Core.Path.{_≡_}
 use mathlib.Core.List.{List}

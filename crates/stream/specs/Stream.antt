@@ -27,7 +27,7 @@ use Rattle.stream.specs.declared.CheckAnswer.the-variants as check
 use Rattle.stream.specs.declared.SeekAnswer.{SeekAnswer}
 use Rattle.stream.specs.declared.SeekAnswer.the-variants as seek
 
--- a packet of a stream: its offset, what it is, and by ID the type bytes of the tracks that the latest map lists, its own if it is a map
+-- a packet of a stream: its offset, what it is, and by ID the marked types of the tracks that the latest map lists, its own if it is a map
 pub record Placed : Type 0 where
   pub at : ℕ
   pub piece : Piece
@@ -42,7 +42,7 @@ pub data End : Type 0 where
 abbrev pub Packets : Type 0
 Packets = Ended Placed End
 
--- the latest map's type bytes, once a packet has passed
+-- the latest map's marked types, once a packet has passed
 abbrev pub typesAfter : List ℕ → ℕ → Piece → List ℕ → List ℕ
 typesAfter s at x types = pick (eqb (x .«packet_type») typeMap) (typesIn (take (x .len) (drop at s))) types
 
@@ -78,7 +78,7 @@ onStep next (step.Next p) = next p
 onStep next (step.Ended n) = check.Packets n
 onStep next (step.Refused r) = check.Refused r
 
--- by type bytes: the type under which an ID is listed, without the mark
+-- the type under which an ID is listed, without the mark
 abbrev pub typeFor : List ℕ → ℕ → ℕ
 typeFor types id = typeAlone (getD types id 0)
 
@@ -94,16 +94,16 @@ judgePackets n p (x ∷ xs) e = onStep (λ q. judgePackets n q xs e) (stepAt n p
 unfoldable pub checkOf : List ℕ → CheckAnswer
 checkOf s = judgePackets (length s) started (packets s .list) (packets s .end)
 
--- a packet that carries two fields, or one, carries field F of track T if its type is known, its ID is T and its number is F, or the one of two below F
+-- a packet that carries two fields, or one, carries field F of track T if its type is known, its ID is T, and its number is F or, where it carries two, F − 1
 unfoldable pub carriesAs : Bool → ℕ → ℕ → Piece → Bool
 carriesAs two track field x =
     pick (eqb (x .«packet_type») typeMedia) (pick (eqb (x .track) track) (pick (isField two (x .field) field) (knownType (x .«media_type»)) false) false) false
 
--- by the type byte that the latest map gives its ID
+-- a packet carries a field of a track, where a table gives its ID this marked type
 abbrev pub carriesPiece : ℕ → ℕ → ℕ → Piece → Bool
 carriesPiece track field byte x = carriesAs (carriesTwo byte (x .field)) track field x
 
--- a packet carries field F of track T by the latest map before it (clause 4.8; 02, §2)
+-- a packet of a stream carries a field of a track, by the latest map before it (clause 4.8; 02, §2)
 abbrev pub carries : ℕ → ℕ → Placed → Bool
 carries track field x = carriesPiece track field (getD (x .types) (x .piece .track) 0) (x .piece)
 

@@ -7,6 +7,8 @@ use piece::PieceAnswer;
 use plate::Refusal;
 ghost use mathlib.Core.Path.{_≡_};
 ghost use mathlib.Core.Bool.{true, false};
+ghost use Prim.Native.Nat.{_<_};
+ghost use lib.ListN.{length, getD};
 ghost use Rattle.plate.specs.Plate.{refusal};
 ghost use Rattle.stream.specs.Stream.{carriesPiece, ranOut, checkOf, seekOf};
 ghost use Rattle.stream.specs.Inside.{orFirst, firstHere, runOf};
@@ -39,33 +41,34 @@ pub enum Run {
     Refused(Refusal),
 }
 
-// Whether a packet carries a field of a track, by the type byte of its ID: its type is known, its ID is the track's, and its number is the field's or, where it carries two, the one below.
-// Most packets have another number: halves are tested first, as both fields of a packet have one half.
-fn carries(x: Piece, listed: u8, track: u64, field: u64) -> bool
-    ensures { λ r. ⌜ r ≡ carriesPiece track field listed x ⌝ }
+// Whether a packet carries a field of a track, by the marked types of the latest map: its type is known, its ID is the track's, and its number is the field's or, where it carries two, the one below.
+// Most packets have another number: halves are tested first, as both fields of a packet have one half, and the table is read last.
+fn carries(x: Piece, types: &[u8], track: u64, field: u64) -> bool
+    requires { ⌜ x .track < length (now types) ⌝ }
+    ensures { λ r. ⌜ r ≡ carriesPiece track field (getD (now (types .entry)) (x .track) 0) x ⌝ }
 {
     let media_type = x.media_type;
-    let number = x.field as u64;
     if x.packet_type != packet::MEDIA {
         return false;
     }
-    if number / 2 != field / 2 {
+    if x.field as u64 / 2 != field / 2 {
         return false;
     }
     if x.track as u64 != track {
         return false;
     }
-    if field::is_field(field::carries_two(listed, number), number, field) {
-        return media_type::is_known(media_type);
+    if media_type::is_known(media_type) {
+        return field::by_half(types[number::wide(x.track)], x.field as u64, field);
     }
     false
 }
 
 // The first carrier so far, with one packet more.
-fn first_with(first: Spot, x: Piece, at: usize, listed: u8, track: u64, field: u64) -> Spot
-    ensures { λ r. ⌜ r ≡ orFirst first (firstHere track field listed x at) ⌝ }
+fn first_with(first: Spot, x: Piece, at: usize, types: &[u8], track: u64, field: u64) -> Spot
+    requires { ⌜ x .track < length (now types) ⌝ }
+    ensures { λ r. ⌜ r ≡ orFirst first (firstHere track field (getD (now (types .entry)) (x .track) 0) x at) ⌝ }
 {
-    if carries(x, listed, track, field) {
+    if carries(x, types, track, field) {
         match first {
             Spot::At(o) => {
                 return Spot::At(o);
@@ -110,9 +113,9 @@ fn one_pass(s: &[u8], track: u64, field: u64) -> Run
                     types = map::types_of(&s[at..e]);
                 }
                 let k = number::wide(x.track);
-                let listed = types.media_types[k];
-                first = first_with(first, x, at, listed, track, field);
-                match order::take_step(p, x, at, field::type_alone(listed), e < s.len()) {
+                first = first_with(first, x, at, &types.media_types, track, field);
+                let listed = field::type_alone(types.media_types[k]);
+                match order::take_step(p, x, at, listed, e < s.len()) {
                     Step::Refused(r) => {
                         return Run::Refused(r);
                     }

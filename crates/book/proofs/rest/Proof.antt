@@ -1,23 +1,12 @@
 -- `book::rest` meets its contract: the text that the checker prints, with the answers to its needs.
 use Rattle.book.proofs.rest.Statement.{statement}
 use Rattle.book.proofs.rest.Tie as tie
-use Rattle.book.proofs.rest.Reads as reads
-use Rattle.book.proofs.rest.Lts as lts
-use Rattle.book.proofs.bad_book.Reads as bad-book-reads
-use Rattle.book.proofs.is_sound.Reads as is-sound-reads
-use Rattle.book.proofs.offset_at.Reads as offset-at-reads
-use Rattle.book.proofs.rises.Reads as rises-reads
-use Rattle.book.proofs.unless_torn.Reads as unless-torn-reads
-use Rattle.number.proofs.le4.Reads as le4-reads
 use borrow.Author.Needs.{needs}
 use native.Mathlib.Omega.{arith}
-use borrow.Author.Needs.{needs}
-use native.Mathlib.Omega.{arith}
-use Prim.Native.Nat.{_+_, _*_, _/_, _≤_, _<_, _-_, _^_}
+use Prim.Native.Nat.{_*_, _/_, _≤_, _-_}
 use mathlib.Core.Path.{_≡_, refl, sym, _∙_}
 use lib.ListN.{length}
 use Rattle.plate.proofs.Tests.{off, on}
-use Rattle.number.specs.Number.{le}
 use Rattle.number.proofs.Laws.{le-lt}
 use Rattle.book.specs.Inside.{verdictFrom}
 use Rattle.book.proofs.Laws.{on-end, next, is-bad, may-stand}

@@ -2,11 +2,6 @@
 use borrow.Author.Needs.{needs}
 use Rattle.book.proofs.unless_torn.Statement.{statement}
 use Rattle.book.proofs.unless_torn.Tie as tie
-use Rattle.book.proofs.unless_torn.Reads as reads
-use Rattle.book.proofs.unless_torn.Lts as lts
-use Rattle.book.proofs.bad_book.Reads as bad-book-reads
-use borrow.Author.Needs.{needs}
-use native.Mathlib.Omega.{arith}
 use borrow.Author.Tests.{eq-eqb, ne-eqb}
 
 returns : tie.Need-returns

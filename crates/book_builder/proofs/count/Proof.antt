@@ -1,12 +1,6 @@
 -- `book_builder::count` meets its contract: the text that the checker prints, with the answers to its needs.
 use Rattle.book_builder.proofs.count.Statement.{statement}
 use Rattle.book_builder.proofs.count.Tie as tie
-use Rattle.book_builder.proofs.count.Reads as reads
-use Rattle.book_builder.proofs.count.Lts as lts
-use Rattle.book_builder.proofs.records_of.Reads as records-of-reads
-use Rattle.piece.proofs.seen_at.Reads as seen-at-reads
-use borrow.Author.Needs.{needs}
-use native.Mathlib.Omega.{arith}
 use borrow.Author.Needs.{needs}
 use native.Mathlib.Omega.{arith}
 use Prim.Native.Nat.{_≤_, _-_}

@@ -2,12 +2,6 @@
 use borrow.Author.Needs.{needs}
 use Rattle.book_builder.proofs.marked_type.Statement.{statement}
 use Rattle.book_builder.proofs.marked_type.Tie as tie
-use Rattle.book_builder.proofs.marked_type.Reads as reads
-use Rattle.book_builder.proofs.marked_type.Lts as lts
-use Rattle.field.proofs.carries_two.Reads as carries-two-reads
-use Rattle.field.proofs.type_with.Reads as type-with-reads
-use borrow.Author.Needs.{needs}
-use native.Mathlib.Omega.{arith}
 use native.Mathlib.Omega.{arith}
 use mathlib.Core.Path.{_∙_}
 use Rattle.media_type.proofs.Laws.{known-under}

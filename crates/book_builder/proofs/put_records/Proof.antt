@@ -2,13 +2,6 @@
 use borrow.Author.Needs.{needs}
 use Rattle.book_builder.proofs.put_records.Statement.{statement}
 use Rattle.book_builder.proofs.put_records.Tie as tie
-use Rattle.book_builder.proofs.put_records.Reads as reads
-use Rattle.book_builder.proofs.put_records.Lts as lts
-use Rattle.book_builder.proofs.is_recorded.Reads as is-recorded-reads
-use Rattle.book_builder.proofs.marked_type.Reads as marked-type-reads
-use Rattle.book_builder.proofs.put_record.Reads as put-record-reads
-use borrow.Author.Needs.{needs}
-use native.Mathlib.Omega.{arith}
 use native.Mathlib.Omega.{arith}
 use mathlib.Core.Path.{refl, sym, _∙_, ap}
 use mathlib.Core.List.{List}

@@ -2,11 +2,6 @@
 use borrow.Author.Needs.{needs}
 use Rattle.book_builder.proofs.records_of.Statement.{statement}
 use Rattle.book_builder.proofs.records_of.Tie as tie
-use Rattle.book_builder.proofs.records_of.Reads as reads
-use Rattle.book_builder.proofs.records_of.Lts as lts
-use Rattle.book_builder.proofs.is_recorded.Reads as is-recorded-reads
-use borrow.Author.Needs.{needs}
-use native.Mathlib.Omega.{arith}
 use mathlib.Core.Path.{sym, _∙_}
 
 is-recorded-requires : tie.Need-is-recorded-requires

@@ -1,17 +1,9 @@
 -- `book_builder::write` meets its contract: the text that the checker prints, with the answers to its needs.
 use Rattle.book_builder.proofs.write.Statement.{statement}
 use Rattle.book_builder.proofs.write.Tie as tie
-use Rattle.book_builder.proofs.write.Reads as reads
-use Rattle.book_builder.proofs.write.Lts as lts
-use Rattle.book_builder.proofs.put_records.Reads as put-records-reads
-use Rattle.map.proofs.types_of.Reads as types-of-reads
-use Rattle.number.proofs.wide.Reads as wide-reads
-use Rattle.piece.proofs.seen_at.Reads as seen-at-reads
 use borrow.Author.Needs.{needs}
 use native.Mathlib.Omega.{arith}
-use borrow.Author.Needs.{needs}
 use borrow.Author.Tests.{eq-eqb, ne-eqb}
-use native.Mathlib.Omega.{arith}
 use native.Mathlib.Nat.{add-sub-cancel-left}
 use Prim.Native.Nat.{_≤_, _-_}
 use mathlib.Core.Path.{_≡_, _∙_, ap}

@@ -2,14 +2,6 @@
 use borrow.Author.Needs.{needs}
 use Rattle.map_tracks.proofs.listed_byte.Statement.{statement}
 use Rattle.map_tracks.proofs.listed_byte.Tie as tie
-use Rattle.map_tracks.proofs.listed_byte.Reads as reads
-use Rattle.map_tracks.proofs.listed_byte.Lts as lts
-use Rattle.field.proofs.type_with.Reads as type-with-reads
-use Rattle.map_answer.proofs.bare.Reads as bare-reads
-use Rattle.map_answer.proofs.code_at.Reads as code-at-reads
-use Rattle.map_answer.proofs.is_progressive.Reads as is-progressive-reads
-use borrow.Author.Needs.{needs}
-use native.Mathlib.Omega.{arith}
 use native.Mathlib.Omega.{arith}
 use mathlib.Core.Path.{_∙_}
 use Rattle.map_tracks.specs.Tracks.{byteOf}

@@ -1,12 +1,6 @@
 -- `map_tracks::types_by_id` meets its contract: the text that the checker prints, with the answers to its needs.
 use Rattle.map_tracks.proofs.types_by_id.Statement.{statement}
 use Rattle.map_tracks.proofs.types_by_id.Tie as tie
-use Rattle.map_tracks.proofs.types_by_id.Reads as reads
-use Rattle.map_tracks.proofs.types_by_id.Lts as lts
-use Rattle.map_tracks.proofs.with_type.Reads as with-type-reads
-use Rattle.number.proofs.be_at.Reads as be-at-reads
-use borrow.Author.Needs.{needs}
-use native.Mathlib.Omega.{arith}
 use borrow.Author.Needs.{needs}
 use native.Mathlib.Omega.{arith}
 use native.Mathlib.Nat.{add-sub-cancel-left}

@@ -2,14 +2,6 @@
 use borrow.Author.Needs.{needs}
 use Rattle.map_tracks.proofs.with_type.Statement.{statement}
 use Rattle.map_tracks.proofs.with_type.Tie as tie
-use Rattle.map_tracks.proofs.with_type.Reads as reads
-use Rattle.map_tracks.proofs.with_type.Lts as lts
-use Rattle.map_answer.proofs.bare.Reads as bare-reads
-use Rattle.map_tracks.proofs.is_listed.Reads as is-listed-reads
-use Rattle.map_tracks.proofs.listed_byte.Reads as listed-byte-reads
-use Rattle.number.proofs.wide.Reads as wide-reads
-use borrow.Author.Needs.{needs}
-use native.Mathlib.Omega.{arith}
 use mathlib.Core.Path.{sym, _∙_}
 
 is-listed-requires : tie.Need-is-listed-requires

@@ -2,16 +2,11 @@
 use borrow.Author.Needs.{needs}
 use Rattle.stream.proofs.first_with.Statement.{statement}
 use Rattle.stream.proofs.first_with.Tie as tie
-use Rattle.stream.proofs.first_with.Reads as reads
-use Rattle.stream.proofs.first_with.Lts as lts
-use Rattle.stream.proofs.carries.Reads as carries-reads
-use borrow.Author.Needs.{needs}
-use native.Mathlib.Omega.{arith}
 use mathlib.Core.Path.{sym, _∙_}
 use Rattle.stream.proofs.Laws.{first-alone}
 
 carries-requires : tie.Need-carries-requires
-carries-requires c κs = search needs
+carries-requires c κs = c .before .pre
 
 enum-known-first : tie.Need-enum-known-first
 enum-known-first c = search needs

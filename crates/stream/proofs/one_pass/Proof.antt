@@ -1,18 +1,6 @@
 -- `stream::one_pass` meets its contract: the text that the checker prints, with the answers to its needs.
 use Rattle.stream.proofs.one_pass.Statement.{statement}
 use Rattle.stream.proofs.one_pass.Tie as tie
-use Rattle.stream.proofs.one_pass.Reads as reads
-use Rattle.stream.proofs.one_pass.Lts as lts
-use Rattle.field.proofs.type_alone.Reads as type-alone-reads
-use Rattle.map.proofs.types_of.Reads as types-of-reads
-use Rattle.number.proofs.wide.Reads as wide-reads
-use Rattle.order.proofs.start.Reads as start-reads
-use Rattle.order.proofs.take_step.Reads as take-step-reads
-use Rattle.piece.proofs.piece_at.Reads as piece-at-reads
-use Rattle.stream.proofs.first_with.Reads as first-with-reads
-use Rattle.stream.proofs.run_out.Reads as run-out-reads
-use borrow.Author.Needs.{needs}
-use native.Mathlib.Omega.{arith}
 use borrow.Author.Needs.{needs}
 use native.Mathlib.Omega.{arith}
 use mathlib.Core.Path.{_≡_, sym, _∙_, ap}
@@ -68,11 +56,11 @@ types-of-requires c κs = search needs
 wide-requires : tie.Need-wide-requires Inv-loop μ-loop
 wide-requires c κs = search needs
 
-element-copy-out-listed : tie.Need-element-copy-out-listed Inv-loop μ-loop
-element-copy-out-listed c = let w = told _ _ _ _ (sym (c .before .before .before .before .before .before .piece-at .ensures) ∙ c .before .before .before .before .x .given .1) in omega (arith, w .track, c .wide .ensures)
-
 first-with-requires : tie.Need-first-with-requires Inv-loop μ-loop
-first-with-requires c κs = search needs
+first-with-requires c κs = let w = told _ _ _ _ (sym (c .before .before .before .before .before .before .before .before .before .piece-at .ensures) ∙ c .before .before .before .before .before .before .before .x .given .1) in omega (arith, w .track)
+
+element-copy-out-type-alone : tie.Need-element-copy-out-type-alone Inv-loop μ-loop
+element-copy-out-type-alone c = let w = told _ _ _ _ (sym (c .before .before .before .before .before .before .before .before .before .before .piece-at .ensures) ∙ c .before .before .before .before .before .before .before .before .x .given .1) in omega (arith, w .track, c .before .before .before .before .wide .ensures)
 
 type-alone-requires : tie.Need-type-alone-requires Inv-loop μ-loop
 type-alone-requires c κs = search needs
@@ -85,42 +73,42 @@ enum-known-r-2 c = search needs
 
 returns-2 : tie.Need-returns-2 Inv-loop μ-loop
 returns-2 c =
-    let a = c .before .before .before .before .before .before .before .before .before .before .before .before .before .before .before .before .before .before .before .args in let l = c .before .before .before .before .before .before .before .before .before .before .before .before .before .before .before .before .loop in let x = c .before .before .before .before .before .before .before .before .before .before .before .x .given .0 .0 in
-    let t : c .before .before .before .before .before .before .before .before .if1 .types .«media_types» ≡ typesAfter (a .s .now) (l .at) x (l .types .«media_types») =
+    let a = c .before .before .before .before .before .before .before .before .before .before .before .before .before .before .before .before .before .before .before .before .before .before .args in let l = c .before .before .before .before .before .before .before .before .before .before .before .before .before .before .before .before .before .before .before .loop in let x = c .before .before .before .before .before .before .before .before .before .before .before .before .before .before .x .given .0 .0 in
+    let t : c .before .before .before .before .before .before .before .before .before .before .before .if1 .types .«media_types» ≡ typesAfter (a .s .now) (l .at) x (l .types .«media_types») =
     ⊎-elim (λ w. rw (eq-eqb _ _ (w .0 .taken)) (ap (λ (k : Types). k .«media_types») (w .3) ∙ rw add-sub-cancel-left at (w .2 .ensures)))
-    (λ w. rw (ne-eqb _ _ (w .0 .left)) (ap (λ (k : Types). k .«media_types») (w .1))) (c .before .before .before .before .before .before .before .before .if1 .came) in
-    let e = sym (c .before .before .before .before .before .before .before .before .before .before .before .before .before .piece-at .ensures) ∙ c .before .before .before .before .before .before .before .before .before .before .before .x .given .1 in
-    on-step-refused (a .s .now) (a .track) (a .field) (l .at) (l .p) (l .types .«media_types») (l .first) (l .inv .3) (c .before .before .before .before .before .before .before .before .before .before .before .before .before .before .before .loop-test .taken) x e (c .before .before .before .before .before .before .before .before .if1 .types .«media_types») t _ (sym (rw (c .before .before .before .before .type-alone .ensures, c .before .before .before .before .before .before .before .wide .ensures) at (c .before .before .before .take-step .ensures)) ∙ c .before .r2 .given .1)
+    (λ w. rw (ne-eqb _ _ (w .0 .left)) (ap (λ (k : Types). k .«media_types») (w .1))) (c .before .before .before .before .before .before .before .before .before .before .before .if1 .came) in
+    let e = sym (c .before .before .before .before .before .before .before .before .before .before .before .before .before .before .before .before .piece-at .ensures) ∙ c .before .before .before .before .before .before .before .before .before .before .before .before .before .before .x .given .1 in
+    on-step-refused (a .s .now) (a .track) (a .field) (l .at) (l .p) (l .types .«media_types») (l .first) (l .inv .3) (c .before .before .before .before .before .before .before .before .before .before .before .before .before .before .before .before .before .before .loop-test .taken) x e (c .before .before .before .before .before .before .before .before .before .before .before .if1 .types .«media_types») t _ (sym (rw (c .before .before .before .before .type-alone .ensures, c .before .before .before .before .before .before .before .before .before .before .wide .ensures) at (c .before .before .before .take-step .ensures)) ∙ c .before .r2 .given .1)
 
 enum-known-count : tie.Need-enum-known-count Inv-loop μ-loop
 enum-known-count c = search needs
 
 returns-3 : tie.Need-returns-3 Inv-loop μ-loop
 returns-3 c =
-    let a = c .before .before .before .before .before .before .before .before .before .before .before .before .before .before .before .before .before .before .before .args in let l = c .before .before .before .before .before .before .before .before .before .before .before .before .before .before .before .before .loop in let x = c .before .before .before .before .before .before .before .before .before .before .before .x .given .0 .0 in
-    let t : c .before .before .before .before .before .before .before .before .if1 .types .«media_types» ≡ typesAfter (a .s .now) (l .at) x (l .types .«media_types») =
+    let a = c .before .before .before .before .before .before .before .before .before .before .before .before .before .before .before .before .before .before .before .before .before .before .args in let l = c .before .before .before .before .before .before .before .before .before .before .before .before .before .before .before .before .before .before .before .loop in let x = c .before .before .before .before .before .before .before .before .before .before .before .before .before .before .x .given .0 .0 in
+    let t : c .before .before .before .before .before .before .before .before .before .before .before .if1 .types .«media_types» ≡ typesAfter (a .s .now) (l .at) x (l .types .«media_types») =
     ⊎-elim (λ w. rw (eq-eqb _ _ (w .0 .taken)) (ap (λ (k : Types). k .«media_types») (w .3) ∙ rw add-sub-cancel-left at (w .2 .ensures)))
-    (λ w. rw (ne-eqb _ _ (w .0 .left)) (ap (λ (k : Types). k .«media_types») (w .1))) (c .before .before .before .before .before .before .before .before .if1 .came) in
-    let e = sym (c .before .before .before .before .before .before .before .before .before .before .before .before .before .piece-at .ensures) ∙ c .before .before .before .before .before .before .before .before .before .before .before .x .given .1 in
-    rw (c .before .before .before .before .before .first-with .ensures, c .before .before .before .before .before .before .before .wide .ensures) (on-ended (a .s .now) (a .track) (a .field) (l .at) (l .p) (l .types .«media_types») (l .first) (l .inv .3) (c .before .before .before .before .before .before .before .before .before .before .before .before .before .before .before .loop-test .taken) x e (c .before .before .before .before .before .before .before .before .if1 .types .«media_types») t _ (sym (rw (c .before .before .before .before .type-alone .ensures, c .before .before .before .before .before .before .before .wide .ensures) at (c .before .before .before .take-step .ensures)) ∙ c .before .count .given .1))
+    (λ w. rw (ne-eqb _ _ (w .0 .left)) (ap (λ (k : Types). k .«media_types») (w .1))) (c .before .before .before .before .before .before .before .before .before .before .before .if1 .came) in
+    let e = sym (c .before .before .before .before .before .before .before .before .before .before .before .before .before .before .before .before .piece-at .ensures) ∙ c .before .before .before .before .before .before .before .before .before .before .before .before .before .before .x .given .1 in
+    rw (c .before .before .before .before .before .before .first-with .ensures) (on-ended (a .s .now) (a .track) (a .field) (l .at) (l .p) (l .types .«media_types») (l .first) (l .inv .3) (c .before .before .before .before .before .before .before .before .before .before .before .before .before .before .before .before .before .before .loop-test .taken) x e (c .before .before .before .before .before .before .before .before .before .before .before .if1 .types .«media_types») t _ (sym (rw (c .before .before .before .before .type-alone .ensures, c .before .before .before .before .before .before .before .before .before .before .wide .ensures) at (c .before .before .before .take-step .ensures)) ∙ c .before .count .given .1))
 
 enum-known-next : tie.Need-enum-known-next Inv-loop μ-loop
 enum-known-next c = search needs
 
 loop-less : tie.Need-loop-less Inv-loop μ-loop
-loop-less c = let w = told _ _ _ _ (sym (c .before .before .before .before .before .before .before .before .before .before .before .before .before .piece-at .ensures) ∙ c .before .before .before .before .before .before .before .before .before .before .before .x .given .1) in omega (arith, w .cut .within, w .cut .least)
+loop-less c = let w = told _ _ _ _ (sym (c .before .before .before .before .before .before .before .before .before .before .before .before .before .before .before .before .piece-at .ensures) ∙ c .before .before .before .before .before .before .before .before .before .before .before .before .before .before .x .given .1) in omega (arith, w .cut .within, w .cut .least)
 
 loop-again : tie.Need-loop-again Inv-loop μ-loop
 loop-again c =
-    let a = c .before .before .before .before .before .before .before .before .before .before .before .before .before .before .before .before .before .before .before .args in let l = c .before .before .before .before .before .before .before .before .before .before .before .before .before .before .before .before .loop in let x = c .before .before .before .before .before .before .before .before .before .before .before .x .given .0 .0 in
-    let t : c .before .before .before .before .before .before .before .before .if1 .types .«media_types» ≡ typesAfter (a .s .now) (l .at) x (l .types .«media_types») =
+    let a = c .before .before .before .before .before .before .before .before .before .before .before .before .before .before .before .before .before .before .before .before .before .before .args in let l = c .before .before .before .before .before .before .before .before .before .before .before .before .before .before .before .before .before .before .before .loop in let x = c .before .before .before .before .before .before .before .before .before .before .before .before .before .before .x .given .0 .0 in
+    let t : c .before .before .before .before .before .before .before .before .before .before .before .if1 .types .«media_types» ≡ typesAfter (a .s .now) (l .at) x (l .types .«media_types») =
     ⊎-elim (λ w. rw (eq-eqb _ _ (w .0 .taken)) (ap (λ (k : Types). k .«media_types») (w .3) ∙ rw add-sub-cancel-left at (w .2 .ensures)))
-    (λ w. rw (ne-eqb _ _ (w .0 .left)) (ap (λ (k : Types). k .«media_types») (w .1))) (c .before .before .before .before .before .before .before .before .if1 .came) in
-    let e = sym (c .before .before .before .before .before .before .before .before .before .before .before .before .before .piece-at .ensures) ∙ c .before .before .before .before .before .before .before .before .before .before .before .x .given .1 in
-    let f = (sym (rw (c .before .before .before .before .type-alone .ensures, c .before .before .before .before .before .before .before .wide .ensures) at (c .before .before .before .take-step .ensures)) ∙ c .before .next .given .1) in
+    (λ w. rw (ne-eqb _ _ (w .0 .left)) (ap (λ (k : Types). k .«media_types») (w .1))) (c .before .before .before .before .before .before .before .before .before .before .before .if1 .came) in
+    let e = sym (c .before .before .before .before .before .before .before .before .before .before .before .before .before .before .before .before .piece-at .ensures) ∙ c .before .before .before .before .before .before .before .before .before .before .before .before .before .before .x .given .1 in
+    let f = (sym (rw (c .before .before .before .before .type-alone .ensures, c .before .before .before .before .before .before .before .before .before .before .wide .ensures) at (c .before .before .before .take-step .ensures)) ∙ c .before .next .given .1) in
     let w = told _ _ _ _ e in
     let b = next-bounds _ _ _ _ _ _ f in
-    (omega (arith, w .cut .within), omega (arith, w .cut .least, b .0), omega (arith, w .cut .least, b .1), rw (c .before .before .before .before .before .first-with .ensures, c .before .before .before .before .before .before .before .wide .ensures) (on-next (a .s .now) (a .track) (a .field) (l .at) (l .p) (l .types .«media_types») (l .first) (l .inv .3) (c .before .before .before .before .before .before .before .before .before .before .before .before .before .before .before .loop-test .taken) x e (c .before .before .before .before .before .before .before .before .if1 .types .«media_types») t _ f))
+    (omega (arith, w .cut .within), omega (arith, w .cut .least, b .0), omega (arith, w .cut .least, b .1), rw (c .before .before .before .before .before .before .first-with .ensures) (on-next (a .s .now) (a .track) (a .field) (l .at) (l .p) (l .types .«media_types») (l .first) (l .inv .3) (c .before .before .before .before .before .before .before .before .before .before .before .before .before .before .before .before .before .before .loop-test .taken) x e (c .before .before .before .before .before .before .before .before .before .before .before .if1 .types .«media_types») t _ f))
 
 run-out-requires : tie.Need-run-out-requires Inv-loop μ-loop
 run-out-requires c κs = search needs
@@ -146,8 +134,8 @@ one-pass-spec =
     part-types-of-end
     types-of-requires
     wide-requires
-    element-copy-out-listed
     first-with-requires
+    element-copy-out-type-alone
     type-alone-requires
     take-step-requires
     enum-known-r-2
