@@ -152,8 +152,8 @@ fn rest(book: &[u8], passed: usize, before: usize, answer: usize) -> LookupAnswe
     unless_torn(book, n, LookupAnswer::At(answer))
 }
 
-// The offset of the first record of a track and field; 23 at the lowest bad record before all, 16 where no record has them.
-// Its words are read before its tests, so that each is one load; once the record is found, only the rest is judged.
+// The offset in the first record of a track that is of the field, by its number or, with the mark, by the number below; 23 at the lowest bad record before all, 16 where no record is.
+// The words of a record are read before its tests, so that each is one load; once the record is found, only the rest is judged.
 pub fn lookup(book: &[u8], track: u64, field: u64) -> LookupAnswer
     ensures { λ r. ⌜ r ≡ lookupOf (now (book .entry)) track field ⌝ }
 {

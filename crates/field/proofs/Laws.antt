@@ -26,7 +26,7 @@ other-half two number field even h = rw (ne-eqb number field (λ z. h (rw z))) (
     go false e = refl
     go true e = ne-eqb (number + 1) field (λ z. h (omega (arith, z, eqb-true (number % 2) 0 (e refl))))
 
--- of two numbers with one half the even one carries both, and the odd one itself
+-- of two numbers with one half, with the mark the even one carries both, and the odd one itself; without it each itself
 pub same-half : (byte number field : ℕ) → number / 2 ≡ field / 2 → isField (carriesTwo byte number) number field ≡ pick (hasMark byte) (leb number field) (eqb number field)
 unfolding isField carriesTwo isEven
 same-half byte number field h = go (hasMark byte) (eqb (number % 2) 0) refl (eqb number field) refl

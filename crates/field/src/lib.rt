@@ -47,7 +47,7 @@ pub fn carries_two(type_byte: u8, number: u64) -> bool
     false
 }
 
-// Whether a packet of a number carries a field that has the number's half, by the marked type of its track: of two such numbers the even one carries both, and the odd one itself.
+// Whether a packet of a number carries a field that has the number's half, by the marked type of its track: with the mark the even one of two such numbers carries both, and the odd one itself; without it each carries itself.
 pub fn by_half(type_byte: u8, number: u64, field: u64) -> bool
     requires { ⌜ number / 2 ≡ field / 2 ⌝ }
     ensures { λ r. ⌜ r ≡ isField (carriesTwo «type_byte» number) number field ⌝ }

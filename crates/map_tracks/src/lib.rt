@@ -1,4 +1,4 @@
-// The track section of a map: its verdict in walk order, the number of its listed tracks, their records, and their types by ID.
+// The track section of a map: its verdict in walk order, the number of its listed tracks, their records, and their marked types by ID.
 // It serves the map reader, which hands it a part of a packet; what asks for bounds here is met there for every input.
 use map_answer::Track;
 use map_items::Part;
@@ -84,7 +84,7 @@ fn listed_byte(type_byte: u8, s: &[u8]) -> u8
     )
 }
 
-// The types by ID with those of one track more, if it is listed.
+// The marked types by ID with that of one track more, if it is listed.
 fn with_type(table: Types, type_byte: u8, id: u8, s: &[u8]) -> Types
     ensures { λ r. ⌜ r .«media_types» ≡ pick (knownType («type_byte» - 0x80)) (set (table .«media_types») (id - 0xC0) (byteOf «type_byte» (now (s .entry)))) (table .«media_types») ⌝ }
 {

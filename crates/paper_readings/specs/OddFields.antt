@@ -49,7 +49,7 @@ eos = headed 0xFB 16
 abbrev pub media : ℕ → ℕ → ℕ → ℕ → List ℕ
 media type id high low = headed 0xBF 32 ++ (type ∷ id ∷ high ∷ high ∷ (high + 1) % 256 ∷ low ∷ replicate 10 0)
 
--- of track 0, type 20: fields 256 and so many; a number of 32 bits
+-- media packets of track 0, type 20: `frame`, whose number is 256 and so many; `numbered`, with any number whose three high bytes are alike
 abbrev pub frame : ℕ → List ℕ
 frame low = media 20 0 0 low
 
@@ -60,7 +60,7 @@ numbered high low = headed 0xBF 32 ++ (20 ∷ 0 ∷ high ∷ high ∷ high ∷ l
 abbrev pub asked : List ℕ → List ℕ
 asked m = m ++ umf ++ frame 44 ++ frame 46 ++ eos
 
--- one media packet at 68 behind a map of 44 bytes; two, 32 bytes apart
+-- one media packet, at 68 where the map has 44 bytes
 abbrev pub one : List ℕ → List ℕ → List ℕ
 one m p = m ++ umf ++ p ++ eos
 
