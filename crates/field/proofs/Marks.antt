@@ -1,5 +1,5 @@
 -- The proof of specs/Marks.antt.
-use Prim.Native.Nat.{ℕ, _<_}
+use Prim.Native.Nat.{_<_}
 use native.Mathlib.Omega.{arith}
 use Rattle.media_type.proofs.Laws.{known-under}
 use Rattle.field.specs.Marks.{KnownMarks}

@@ -2,13 +2,7 @@
 use borrow.Author.Needs.{needs}
 use Rattle.field.proofs.by_half.Statement.{statement}
 use Rattle.field.proofs.by_half.Tie as tie
-use Rattle.field.proofs.by_half.Reads as reads
-use Rattle.field.proofs.by_half.Lts as lts
-use Rattle.field.proofs.has_mark.Reads as has-mark-reads
-use borrow.Author.Needs.{needs}
-use native.Mathlib.Omega.{arith}
 use mathlib.Core.Path.{sym, _∙_}
-use Rattle.field.specs.Field.{hasMark}
 use Rattle.field.proofs.Laws.{same-half}
 
 has-mark-requires : tie.Need-has-mark-requires

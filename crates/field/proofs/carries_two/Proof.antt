@@ -2,12 +2,6 @@
 use borrow.Author.Needs.{needs}
 use Rattle.field.proofs.carries_two.Statement.{statement}
 use Rattle.field.proofs.carries_two.Tie as tie
-use Rattle.field.proofs.carries_two.Reads as reads
-use Rattle.field.proofs.carries_two.Lts as lts
-use Rattle.field.proofs.has_mark.Reads as has-mark-reads
-use Rattle.field.proofs.is_even.Reads as is-even-reads
-use borrow.Author.Needs.{needs}
-use native.Mathlib.Omega.{arith}
 use mathlib.Core.Path.{sym, _∙_}
 use Rattle.field.specs.Field.{carriesTwo}
 

@@ -1,10 +1,6 @@
 -- `field::has_mark` meets its contract: the text that the checker prints, with the answers to its needs.
 use Rattle.field.proofs.has_mark.Statement.{statement}
 use Rattle.field.proofs.has_mark.Tie as tie
-use Rattle.field.proofs.has_mark.Reads as reads
-use Rattle.field.proofs.has_mark.Lts as lts
-use borrow.Author.Needs.{needs}
-use native.Mathlib.Omega.{arith}
 use mathlib.Core.Path.{refl}
 use Rattle.field.specs.Field.{hasMark}
 

@@ -1,10 +1,6 @@
 -- `field::is_even` meets its contract: the text that the checker prints, with the answers to its needs.
 use Rattle.field.proofs.is_even.Statement.{statement}
 use Rattle.field.proofs.is_even.Tie as tie
-use Rattle.field.proofs.is_even.Reads as reads
-use Rattle.field.proofs.is_even.Lts as lts
-use borrow.Author.Needs.{needs}
-use native.Mathlib.Omega.{arith}
 use mathlib.Core.Path.{refl}
 use Rattle.field.specs.Field.{isEven}
 

@@ -1,10 +1,6 @@
 -- `field::type_alone` meets its contract: the text that the checker prints, with the answers to its needs.
 use Rattle.field.proofs.type_alone.Statement.{statement}
 use Rattle.field.proofs.type_alone.Tie as tie
-use Rattle.field.proofs.type_alone.Reads as reads
-use Rattle.field.proofs.type_alone.Lts as lts
-use borrow.Author.Needs.{needs}
-use native.Mathlib.Omega.{arith}
 use mathlib.Core.Path.{refl}
 use Rattle.field.specs.Field.{typeAlone}
 

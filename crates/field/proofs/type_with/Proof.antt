@@ -2,12 +2,6 @@
 use borrow.Author.Needs.{needs}
 use Rattle.field.proofs.type_with.Statement.{statement}
 use Rattle.field.proofs.type_with.Tie as tie
-use Rattle.field.proofs.type_with.Reads as reads
-use Rattle.field.proofs.type_with.Lts as lts
-use borrow.Author.Needs.{needs}
-use native.Mathlib.Omega.{arith}
-use native.Mathlib.Omega.{arith}
-use mathlib.Core.Path.{refl}
 use Rattle.field.specs.Field.{typeWith}
 
 add-result : tie.Need-add-result

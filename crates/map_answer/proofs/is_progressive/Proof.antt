@@ -2,10 +2,6 @@
 use borrow.Author.Needs.{needs}
 use Rattle.map_answer.proofs.is_progressive.Statement.{statement}
 use Rattle.map_answer.proofs.is_progressive.Tie as tie
-use Rattle.map_answer.proofs.is_progressive.Reads as reads
-use Rattle.map_answer.proofs.is_progressive.Lts as lts
-use borrow.Author.Needs.{needs}
-use native.Mathlib.Omega.{arith}
 use Rattle.map_answer.specs.Answer.{isProgressive}
 
 enum-known-fields : tie.Need-enum-known-fields
