@@ -1,4 +1,6 @@
 // A caller of builder, look-up and seek, whose contract says that look-up in a stream's book and seek in the stream agree.
+#![tactic(auto)]
+
 ghost use Rattle.std.specs.Prelude.{◌≡◌};
 ghost use Rattle.book_builder.specs.BookBuilder.{build_answer, built_in};
 ghost use Rattle.agreement.specs.Agreement.{agreement_of};
@@ -10,7 +12,7 @@ use plate::Refusal;
 use stream::SeekAnswer;
 
 // Book and stream give one answer, or two; or there is no book.
-#[derive(Drop)]
+#[derive(Clone, Copy)]
 pub enum Agreement {
     One,
     Two,

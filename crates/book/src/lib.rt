@@ -1,4 +1,6 @@
 // The seek book: its records, and the lookup of a track's field in a lent book.
+#![tactic(auto)]
+
 ghost use Rattle.std.specs.Prelude.{◌≡◌, ◌+◌, ◌*◌, ◌%◌, ◌<◌, ◌≤◌, ◌^◌, length, eqb};
 ghost use Rattle.plate.specs.Choice.{pick};
 ghost use Rattle.plate.specs.Plate.{refusal};
@@ -9,7 +11,7 @@ ghost use Rattle.book.specs.Inside.{plain_head, doubled_head, sound_head, kind_o
 use plate::Refusal;
 
 // What a record says: a track ID, a media type, with the mark for a packet that carries two fields, a field number and the packet's offset.
-#[derive(Drop)]
+#[derive(Clone, Copy)]
 pub struct Entry {
     pub track: u8,
     pub media_type: u8,
@@ -17,14 +19,14 @@ pub struct Entry {
     pub at: usize,
 }
 
-#[derive(Drop)]
+#[derive(Clone, Copy)]
 pub enum LookupAnswer {
     At(usize),
     Refused(Refusal),
 }
 
 // What a record is to a look-up: bad by its first word and number, good and of another field, or good and of the field.
-#[derive(Drop)]
+#[derive(Clone, Copy)]
 pub enum Kind {
     Bad,
     Other,

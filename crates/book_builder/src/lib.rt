@@ -1,4 +1,6 @@
 // The builder of the seek book: one record a media packet of known type, in stream order, into a lent buffer.
+#![tactic(auto)]
+
 ghost use Rattle.std.specs.Prelude.{◌≡◌, ◌+◌, ◌*◌, ◌≤◌, length, true};
 ghost use Rattle.std.proofs.lemmas.List.Edits.{sets};
 ghost use Rattle.plate.specs.Choice.{pick};
@@ -15,7 +17,7 @@ use plate::Refusal;
 use stream::CheckAnswer;
 
 // A book of so many records was written.
-#[derive(Drop)]
+#[derive(Clone, Copy)]
 pub enum BuildAnswer {
     Records(usize),
     Refused(Refusal),

@@ -1,4 +1,6 @@
 // What the programs print and load with: texts and numbers to standard output, bytes from standard input or a file into a lent buffer.
+#![tactic(auto)]
+
 ghost use Rattle.std.specs.Prelude.{◌≤◌, ◌≡◌, length};
 ghost use Rattle.io.specs.Counts.{IsPrefixLen};
 ghost use Rattle.console.specs.Bits.{bits_of};

@@ -1,5 +1,7 @@
 // The functions for C: the header, the position by a locator table, and seek, on numbers and byte slices. include/lumperki.h declares them.
 // A slice is a pointer and a length in C. Every answer is a struct by value: number 0 and the values, or a number of the plate, its place and the bytes lacking.
+#![tactic(auto)]
+
 ghost use Rattle.std.specs.Prelude.{◌≡◌};
 ghost use Rattle.packet.specs.Packet.{header_at};
 ghost use Rattle.locator.specs.Locator.{position_at};
@@ -13,7 +15,7 @@ use stream::SeekAnswer;
 
 // What a header says: the packet's type, and its length with the header.
 #[repr(C)]
-#[derive(Drop)]
+#[derive(Clone, Copy)]
 pub struct GxfPacket {
     pub number: u64,
     pub place: u64,

@@ -1,4 +1,6 @@
 // The function for C by which bench/ counts the building of a seek book; apart from `count_stream`, as a library that has both compiles the check otherwise.
+#![tactic(auto)]
+
 ghost use Rattle.std.specs.Prelude.{◌≡◌};
 ghost use Rattle.book_builder.specs.BookBuilder.{build_answer, built_in};
 ghost use Rattle.count_book.specs.MeasureBook.{build_reading};

@@ -1,4 +1,6 @@
 // The function for C by which bench/ counts the map reader, with all that it answers; apart from `count_stream`, as a library that has both compiles the check otherwise.
+#![tactic(auto)]
+
 ghost use Rattle.std.specs.Prelude.{◌≡◌};
 ghost use Rattle.map.specs.Map.{map_at};
 ghost use Rattle.count_map.specs.MeasureMap.{or_none, place_of, length_of, accepted_for_c, refused_for_c, map_for_c};
@@ -13,7 +15,7 @@ const NONE: u64 = 0xFFFF_FFFF_FFFF_FFFF;
 
 // Number 0, place 0, lacking 0, the count of listed tracks and the material; or a number of the plate, its place, the bytes lacking, and zeros.
 #[repr(C)]
-#[derive(Drop)]
+#[derive(Clone, Copy)]
 pub struct GxfMap {
     pub number: u64,
     pub place: u64,

@@ -1,4 +1,6 @@
 // Functions for C by which bench/ counts instructions: the check, and the look-up in a seek book. They are not in the library for C.
+#![tactic(auto)]
+
 ghost use Rattle.std.specs.Prelude.{◌≡◌};
 ghost use Rattle.stream.specs.Stream.{check_of};
 ghost use Rattle.book.specs.Book.{lookup_of};

@@ -1,4 +1,6 @@
 // Field numbers: which fields a packet carries by its number, and the mark beside a media type, of tracks with fields per frame 1 and of packets that carry two fields.
+#![tactic(auto)]
+
 ghost use Rattle.std.specs.Prelude.{◌≡◌, ◌/◌, ◌<◌};
 ghost use Rattle.field.specs.Field.{type_with, has_mark, type_alone, is_even, carries_two, is_field};
 

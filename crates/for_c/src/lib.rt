@@ -1,4 +1,6 @@
 // What C is given where an answer is one number. It serves the crates with functions for C, which say what the number is.
+#![tactic(auto)]
+
 ghost use Rattle.std.specs.Prelude.{◌≡◌};
 ghost use Rattle.for_c.specs.ForC.{answered_for_c, refused_for_c};
 
@@ -6,7 +8,7 @@ use plate::Refusal;
 
 // Number 0, place 0, lacking 0 and the value; or a number of the plate, its place, the bytes lacking, and 0.
 #[repr(C)]
-#[derive(Drop)]
+#[derive(Clone, Copy)]
 pub struct GxfValue {
     pub number: u64,
     pub place: u64,

@@ -1,4 +1,6 @@
 // What the listing prints of a stream: a line a packet and their number, or the one refusal.
+#![tactic(auto)]
+
 use console::say;
 use packet::PacketAnswer;
 use plate::Refusal;

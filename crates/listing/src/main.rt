@@ -1,4 +1,5 @@
 // Lists the packets of a stream on standard input: a line a packet, or the one refusal.
+#![tactic(auto)]
 
 fn main() {
     let mut buffer = [0u8; 65537];

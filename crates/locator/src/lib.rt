@@ -1,6 +1,8 @@
 // The field locator table: its step and count, and the position in the stream for a distance in fields.
 // The distance counts from the field of entry 0, which is the first field and one step (Table 14): for field N a caller gives N less that.
 // `table` and `position_in` take the bytes of one packet whose header was read, up to its length.
+#![tactic(auto)]
+
 ghost use Rattle.std.specs.Prelude.{◌≡◌};
 ghost use Rattle.packet.specs.Packet.{packet_at};
 ghost use Rattle.locator.specs.Locator.{table_of, table_at, position_of, position_at};
@@ -9,19 +11,19 @@ use packet::PacketAnswer;
 use plate::Refusal;
 
 // Fields per entry, and the number of entries.
-#[derive(Drop)]
+#[derive(Clone, Copy)]
 pub struct Locator {
     pub step: usize,
     pub count: usize,
 }
 
-#[derive(Drop)]
+#[derive(Clone, Copy)]
 pub enum LocatorAnswer {
     Table(Locator),
     Refused(Refusal),
 }
 
-#[derive(Drop)]
+#[derive(Clone, Copy)]
 pub enum PositionAnswer {
     At(u64),
     Refused(Refusal),

@@ -1,5 +1,7 @@
 // The writer of field locator tables: an FLT packet at a place of the caller's outgoing buffer.
 // Step and offsets come 64 bits wide; what does not fit its 32 bits is refused, never cut. A refused call changes nothing.
+#![tactic(auto)]
+
 ghost use Rattle.std.specs.Prelude.{◌≡◌, ◌+◌, ◌*◌, ◌≤◌, length};
 ghost use Rattle.std.proofs.lemmas.List.Edits.{sets};
 ghost use Rattle.locator_writer.specs.Write.{all_fit, may_write, entry_bytes, locator_packet, locator_answer, locator_written_in};

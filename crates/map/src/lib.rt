@@ -1,6 +1,8 @@
 // The map reader: the verdict on a map packet, its material answer, its listed tracks by number, and their IDs with types.
 // `read` and `track` take lent bytes and a position. The functions `.._of` take the bytes of one packet whose header was read, up to its length;
 // what those that give no verdict say is 01's answer where `verdict_of` accepts, and of other bytes what the lengths alone give.
+#![tactic(auto)]
+
 ghost use Rattle.std.specs.Prelude.{◌≡◌, ◌+◌, ◌≤◌, length};
 ghost use Rattle.map_tracks.specs.Tracks.{kth_of, id_of};
 ghost use Rattle.map.specs.Map.{after_material, layout_of, material_in, tracks_in, tracks_at, both_verdict, sections_verdict, map_verdict, material_says, listed_in, types_in, answer_of, track_in, map_at, track_at};
@@ -12,7 +14,7 @@ use packet::PacketAnswer;
 use plate::Refusal;
 
 // Where a map's two sections end, by their length words alone; the material section begins at 20.
-#[derive(Drop)]
+#[derive(Clone, Copy)]
 pub enum Layout {
     // The material section ends at the first, and the track section, two bytes after that, begins; it ends at the second.
     Both(usize, usize),
@@ -23,19 +25,19 @@ pub enum Layout {
 }
 
 // What an accepted map says: the number of its listed tracks, and the material answer.
-#[derive(Drop)]
+#[derive(Clone, Copy)]
 pub struct MapSays {
     pub count: usize,
     pub material: Material,
 }
 
-#[derive(Drop)]
+#[derive(Clone, Copy)]
 pub enum MapAnswer {
     Says(MapSays),
     Refused(Refusal),
 }
 
-#[derive(Drop)]
+#[derive(Clone, Copy)]
 pub enum TrackAnswer {
     Record(Track),
     Refused(Refusal),

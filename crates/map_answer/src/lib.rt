@@ -1,5 +1,7 @@
 // What the items of a section say: the material answer and the track record, by value.
 // It serves the map reader, which hands it parts of a packet; what asks for bounds here is met there for every input.
+#![tactic(auto)]
+
 ghost use Rattle.std.specs.Prelude.{◌≡◌, ◌+◌, ◌-◌, ◌<◌, ◌^◌, length};
 ghost use Rattle.map_items.specs.Items.{section_of};
 ghost use Rattle.plate.specs.Choice.{pick};
@@ -11,14 +13,14 @@ use map_aspect::Aspect;
 use map_items::Part;
 
 // A number of a map, if it is there.
-#[derive(Drop)]
+#[derive(Clone, Copy)]
 pub enum Value {
     Is(u32),
     Absent,
 }
 
 // A rate, line or field code: a value of Table 6, −1, −2, or none of these.
-#[derive(Drop)]
+#[derive(Clone, Copy)]
 pub enum Code {
     Is(u8),
     NotApplicable,
@@ -27,7 +29,7 @@ pub enum Code {
 }
 
 // The material section: its name's place and stored length, and its five numbers.
-#[derive(Drop)]
+#[derive(Clone, Copy)]
 pub struct Material {
     pub name: Part,
     pub first: Value,
@@ -38,7 +40,7 @@ pub struct Material {
 }
 
 // A track: ID and type bare, codes, version, where name, 4D and 4F stand, and the aspect that follows.
-#[derive(Drop)]
+#[derive(Clone, Copy)]
 pub struct Track {
     pub id: u8,
     pub media_type: u8,

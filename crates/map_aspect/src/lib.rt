@@ -1,11 +1,13 @@
 // The aspect of a track, 4x3 or 16x9, by its type and by the bytes of its 4D and 4F. No picture is opened.
+#![tactic(auto)]
+
 ghost use Rattle.std.specs.Prelude.{◌≡◌, eqb};
 ghost use Rattle.map_aspect.specs.Aspect.{aspect_for, validity, dv_aspect, text_aspect, aspect_of};
 
 use mpeg::RatioAnswer;
 use mpeg_parameter::ParameterValue;
 
-#[derive(Drop)]
+#[derive(Clone, Copy)]
 pub enum Aspect {
     FourByThree,
     SixteenByNine,

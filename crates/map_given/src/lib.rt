@@ -1,5 +1,7 @@
 // What the map writer is given: words of 64 bits in records over a lent text, and their faults.
 // What does not fit its field, is reserved or barred has a fault; nothing is cut.
+#![tactic(auto)]
+
 ghost use Rattle.std.specs.Prelude.{◌≡◌, [], ◌∷◌, ◌++◌, ◌+◌, ◌*◌, ◌≤◌, ◌<◌, false, leb, eqb, length, get_or, replicate};
 ghost use Rattle.text.specs.Text.{text_ok};
 ghost use Rattle.map_given.specs.Given.{slot_at, slots, track_at, tracks_given};
@@ -50,7 +52,7 @@ pub const LINES: usize = 17;
 pub const FIELDS: usize = 20;
 
 // The places above.
-#[derive(Drop)]
+#[derive(Clone, Copy)]
 struct Words {
     material: [usize; 6],
     track: [usize; 9],
@@ -76,7 +78,7 @@ fn tied() -> Words
 }
 
 // A slot, and the tag that it is for.
-#[derive(Drop)]
+#[derive(Clone, Copy)]
 pub struct Slot {
     pub tag: u8,
     pub mark: u64,
@@ -85,7 +87,7 @@ pub struct Slot {
 }
 
 // The IDs given so far.
-#[derive(Drop)]
+#[derive(Clone, Copy)]
 pub struct Used {
     pub flags: [bool; 64],
 }

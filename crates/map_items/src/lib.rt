@@ -1,5 +1,7 @@
 // The items of a map's material section or of a track: tag, length and that many bytes, judged in walk order and found by tag.
 // It serves the map reader, which hands it parts of a packet; what asks for bounds here is met there for every input.
+#![tactic(auto)]
+
 ghost use Rattle.std.specs.Prelude.{◌≡◌, true, ◌+◌, ◌<◌, ◌^◌, length};
 ghost use Rattle.map_items.specs.Items.{section_of};
 ghost use Rattle.map_items.specs.Judge.{form_of, is_known, fault_of, counts_as, verdict_of};
@@ -9,28 +11,28 @@ ghost use Rattle.map_items.specs.Find.{part_of, find};
 use plate::Refusal;
 
 // Where items stand: a tag known in one is unknown in the other.
-#[derive(Drop)]
+#[derive(Clone, Copy)]
 pub enum Section {
     Material,
     Track,
 }
 
 // What a tag asks of its item: text, a number of bytes, or nothing.
-#[derive(Drop)]
+#[derive(Clone, Copy)]
 pub enum Form {
     Text,
     Sized(usize),
     Unknown,
 }
 
-#[derive(Drop)]
+#[derive(Clone, Copy)]
 pub enum Verdict {
     Accepted,
     Refused(Refusal),
 }
 
 // Where some bytes of a packet stand, and how many there are: an item's value, its stored length.
-#[derive(Drop)]
+#[derive(Clone, Copy)]
 pub enum Part {
     At(usize, usize),
     Absent,

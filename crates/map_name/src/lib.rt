@@ -1,4 +1,6 @@
 // Track names, handed out as the part of the lent map that holds them, without the closing 00.
+#![tactic(auto)]
+
 ghost use Rattle.std.specs.Prelude.{◌≡◌, ◌≤◌, length};
 ghost use Rattle.map_name.specs.Name.{opened_of, unended, name_in, name_at, name_bytes, place_in, name_of_two_at, two_bytes, place_of_two};
 ghost use Rattle.map_name.specs.Inside.{in_closing, in_opening, first_of};
@@ -9,21 +11,21 @@ use packet::PacketAnswer;
 use plate::Refusal;
 
 // The length of an accepted map packet at the start of lent bytes, or its refusal.
-#[derive(Drop)]
+#[derive(Clone, Copy)]
 pub enum Opened {
     Bytes(usize),
     Refused(Refusal),
 }
 
 // Where a name stands, and its length without the 00.
-#[derive(Drop)]
+#[derive(Clone, Copy)]
 pub enum NameAnswer {
     At(usize, usize),
     Refused(Refusal),
 }
 
 // The same, and in which of two maps.
-#[derive(Drop)]
+#[derive(Clone, Copy)]
 pub enum TwoAnswer {
     Opening(usize, usize),
     Closing(usize, usize),

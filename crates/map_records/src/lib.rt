@@ -1,5 +1,7 @@
 // The map reader into lent track records: one record for each listed track, in map order.
 // `fill` takes a slice of structs, so it is proved by hand, and thin: what it answers, how many records it writes and what each holds are functions by value.
+#![tactic(auto)]
+
 ghost use Rattle.std.specs.Prelude.{◌≡◌, length, get_or};
 ghost use Rattle.map_records.specs.Fill.{records_at, with_room, answer_for, Filled};
 ghost use Rattle.map_records.specs.Inside.{records_to_write, blank};

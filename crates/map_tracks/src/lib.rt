@@ -1,5 +1,7 @@
 // The track section of a map: its verdict in walk order, the number of its listed tracks, their records, and their marked types by ID.
 // It serves the map reader, which hands it a part of a packet; what asks for bounds here is met there for every input.
+#![tactic(auto)]
+
 ghost use Rattle.std.specs.Prelude.{◌≡◌, true, false, ◌+◌, ◌-◌, ◌<◌, ◌≤◌, ◌^◌, length, set, replicate};
 ghost use Rattle.plate.specs.Choice.{pick};
 ghost use Rattle.media_type.specs.MediaType.{known_type};
@@ -13,19 +15,19 @@ use map_answer::Track;
 use map_items::{Part, Section, Verdict};
 
 // The track IDs seen so far: bit k, worth 2^k, is ID k.
-#[derive(Drop)]
+#[derive(Clone, Copy)]
 pub struct Seen {
     pub ids: u64,
 }
 
 // By ID, the type under which a track is listed, with the mark where its fields per frame are 1; 0 where none is.
-#[derive(Drop)]
+#[derive(Clone, Copy)]
 pub struct Types {
     pub media_types: [u8; 64],
 }
 
 // A listed track that was asked for by its number or its ID, if there is one.
-#[derive(Drop)]
+#[derive(Clone, Copy)]
 pub enum Kth {
     Record(Track),
     Nothing,

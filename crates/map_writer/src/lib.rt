@@ -1,5 +1,7 @@
 // The writer of maps: a map packet at a place of the caller's outgoing buffer.
 // What it is given, and what of that is refused, never cut, is `map_given`'s. A refused call changes nothing.
+#![tactic(auto)]
+
 ghost use Rattle.std.specs.Prelude.{◌≡◌, [], ◌∷◌, ◌++◌, ◌+◌, ◌*◌, ◌/◌, ◌%◌, ◌≤◌, ◌<◌, true, false, leb, eqb, length, get_or, take, drop, replicate};
 ghost use Rattle.std.proofs.lemmas.List.Edits.{sets};
 ghost use Rattle.number.specs.Number.{be_bytes};

@@ -1,4 +1,6 @@
 // The media preamble: what the first sixteen payload bytes of a media packet say.
+#![tactic(auto)]
+
 ghost use Rattle.std.specs.Prelude.{◌≡◌};
 ghost use Rattle.media.specs.Media.{preamble_of, preamble_at};
 
@@ -6,7 +8,7 @@ use packet::PacketAnswer;
 use plate::Refusal;
 
 // Media type and track ID, bare; media field number, field information, time line field number, flags.
-#[derive(Drop)]
+#[derive(Clone, Copy)]
 pub struct Media {
     pub media_type: u8,
     pub track: u8,
@@ -16,7 +18,7 @@ pub struct Media {
     pub flags: u8,
 }
 
-#[derive(Drop)]
+#[derive(Clone, Copy)]
 pub enum MediaAnswer {
     Preamble(Media),
     Refused(Refusal),

@@ -1,4 +1,6 @@
 // The media types of Table 5: which are known, in maps and in media packets alike, which are MPEG video, and the auxiliary item that a track of each may not have.
+#![tactic(auto)]
+
 ghost use Rattle.std.specs.Prelude.{◌≡◌};
 ghost use Rattle.media_type.specs.MediaType.{known_type, mpeg_type, wrong_form};
 

@@ -1,4 +1,6 @@
 // MPEG auxiliary text: lines of an identifier and a value, read into every parameter of Table 7.
+#![tactic(auto)]
+
 ghost use Rattle.std.specs.Prelude.{◌≡◌, ◌<◌, ◌≤◌, length, get_or, eqb};
 ghost use Rattle.mpeg_parameter.specs.Table.{row_of};
 ghost use Rattle.mpeg.specs.Lines.{label_at, value_then, lines_at};
@@ -9,27 +11,27 @@ use mpeg_decimal::Amount;
 use mpeg_parameter::{ParameterValue, Parameters};
 use plate::Refusal;
 
-#[derive(Drop)]
+#[derive(Clone, Copy)]
 pub enum MpegAnswer {
     Given(Parameters),
     Refused(Refusal),
 }
 
-#[derive(Drop)]
+#[derive(Clone, Copy)]
 pub enum RatioAnswer {
     Given(ParameterValue),
     Refused(Refusal),
 }
 
 // What the lines so far come to: none at fault, or the first fault.
-#[derive(Drop)]
+#[derive(Clone, Copy)]
 enum Verdict {
     Fine,
     Bad(Refusal),
 }
 
 // An identifier that stands at a place: its row and where its value begins; or none.
-#[derive(Drop)]
+#[derive(Clone, Copy)]
 enum Label {
     Names(usize, usize),
     Broken,

@@ -1,8 +1,10 @@
 // Numbers written in decimal digits: a whole number, and a rate in millionths.
+#![tactic(auto)]
+
 ghost use Rattle.std.specs.Prelude.{◌≡◌, ◌≤◌, ◌-◌, ◌^◌};
 ghost use Rattle.mpeg_decimal.specs.Decimal.{numeral_of, fraction_of, whole_of, rate_of};
 
-#[derive(Drop)]
+#[derive(Clone, Copy)]
 pub enum Amount {
     Of(u64),
     Malformed,

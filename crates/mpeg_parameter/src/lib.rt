@@ -1,5 +1,7 @@
 // The parameters of MPEG auxiliary text: the table's rows, what a value is for a row, and every parameter by what the lines gave.
 // What a line gave is a slot: 0 where no line gave the parameter, n + 1 where a line gave n.
+#![tactic(auto)]
+
 ghost use Rattle.std.specs.Prelude.{◌≡◌};
 ghost use Rattle.mpeg_parameter.specs.Table.{row_at, row_for};
 ghost use Rattle.mpeg_parameter.specs.Parameters.{amount_of, given, wanting, number_of, value_of_row, lacking, parameters_of};
@@ -7,7 +9,7 @@ ghost use Rattle.mpeg_parameter.specs.Parameters.{amount_of, given, wanting, num
 use mpeg_decimal::Amount;
 
 // A row of the table: the identifier's bytes as a number, whether it must be given, whether it is a rate, and its first and last allowed value.
-#[derive(Drop)]
+#[derive(Clone, Copy)]
 struct Row(u64, bool, bool, u64, u64);
 
 // Ver, Br, Ipg, Ppi, Bpiop, Pix, Cf, Cg, Sl, nl16, Vi, f1, cbpg, ar; a rate's values are in millionths. Past the table stands a row that is nobody's.
@@ -35,14 +37,14 @@ fn row_at(k: usize) -> Row
 }
 
 // A parameter's value: a whole number, or a rate.
-#[derive(Drop)]
+#[derive(Clone, Copy)]
 pub enum ParameterValue {
     Whole(u32),
     Rate(f64),
 }
 
 // Every parameter, by its identifier; an optional one that is not given is 0.
-#[derive(Drop)]
+#[derive(Clone, Copy)]
 pub struct Parameters {
     pub ver: ParameterValue,
     pub br: ParameterValue,

@@ -1,4 +1,6 @@
 // Runs in lent bytes: where the bytes of one kind, from a place on, end.
+#![tactic(auto)]
+
 ghost use Rattle.std.specs.Prelude.{◌≡◌};
 ghost use Rattle.mpeg_scan.specs.Scan.{run_end, other, alnum};
 

@@ -1,5 +1,7 @@
 // The order of packets in a stream: the progress so far and one piece give the next progress, the end, or a refusal. It looks at no byte.
 // It serves the stream check: `take_step` asks that its counts have room for one packet more, which a stream in memory always leaves.
+#![tactic(auto)]
+
 ghost use Rattle.std.specs.Prelude.{◌≡◌, ◌+◌, ◌<◌, ◌^◌};
 ghost use Rattle.plate.specs.Plate.{refusal};
 ghost use Rattle.order.specs.Order.{started, misplaced, overdue, unmapped, either_type, falls, progress_after, ending, step_as, step_of};
@@ -8,7 +10,7 @@ use piece::Piece;
 use plate::Refusal;
 
 // What has passed: packets in all, packets since the latest map, whether an FLT was seen, whether EOS must follow it, whether a UMF was seen.
-#[derive(Drop)]
+#[derive(Clone, Copy)]
 pub struct Progress {
     pub count: usize,
     pub since_map: usize,
@@ -17,7 +19,7 @@ pub struct Progress {
     pub umf: bool,
 }
 
-#[derive(Drop)]
+#[derive(Clone, Copy)]
 pub enum Step {
     Next(Progress),
     // The stream ends here, with so many packets.

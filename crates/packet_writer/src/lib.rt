@@ -1,5 +1,7 @@
 // What the writers share: their answer, a packet's header, and the room at a place of the caller's outgoing buffer.
 // `put_header` asks for its sixteen bytes: it serves the writers, whose own functions take every input.
+#![tactic(auto)]
+
 ghost use Rattle.std.specs.Prelude.{◌≡◌, ◌-◌, ◌≤◌, length, ltb};
 ghost use Rattle.std.proofs.lemmas.List.Edits.{sets};
 ghost use Rattle.packet_writer.specs.Write.{header_of};
@@ -7,7 +9,7 @@ ghost use Rattle.packet_writer.specs.Write.{header_of};
 use plate::Refusal;
 
 // The length of the packet written, or the refusal.
-#[derive(Drop)]
+#[derive(Clone, Copy)]
 pub enum WriteAnswer {
     Length(usize),
     Refused(Refusal),

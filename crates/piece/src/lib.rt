@@ -1,4 +1,6 @@
 // A piece of a stream: what one packet is to the rules of streams, or its first fault: of its header, 17, of its content.
+#![tactic(auto)]
+
 ghost use Rattle.std.specs.Prelude.{◌≡◌, ◌+◌, ◌<◌, ◌≤◌, ◌^◌, length};
 ghost use Rattle.packet.specs.Packet.{header_at};
 ghost use Rattle.piece.specs.Inside.{media_len};
@@ -12,7 +14,7 @@ use packet::PacketAnswer;
 use plate::Refusal;
 
 // A packet's type and length, and of a media packet its media type, track ID and field number; of any other, zeros.
-#[derive(Drop)]
+#[derive(Clone, Copy)]
 pub struct Piece {
     pub packet_type: u8,
     pub len: usize,
@@ -21,7 +23,7 @@ pub struct Piece {
     pub field: u32,
 }
 
-#[derive(Drop)]
+#[derive(Clone, Copy)]
 pub enum PieceAnswer {
     Whole(Piece),
     Refused(Refusal),

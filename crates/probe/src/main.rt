@@ -1,5 +1,7 @@
 // Answers requests on standard input, a line each, until the input ends or a request is malformed: docs/PROBE.md.
 // What it prints is compared, not proved: it is proved safe and to end, and so are the libraries that serve it alone, `probe_` and a name.
+#![tactic(auto)]
+
 use libc::STDOUT_FILENO;
 
 fn writers(out: &mut [u8], function: u8, x: u64, y: u64, z: u64, a: &[u8]) -> usize {

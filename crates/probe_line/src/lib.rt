@@ -1,4 +1,6 @@
 // The probe's lines: tokens of a line, put into a lent buffer from a place on; each function gives the place behind what it put. What finds no room is left out.
+#![tactic(auto)]
+
 use plate::Refusal;
 
 fn put(out: &mut [u8], at: usize, b: u8) -> usize {

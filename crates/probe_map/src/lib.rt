@@ -1,4 +1,6 @@
 // The probe's answer of the map reader with n lent records, and the records after it.
+#![tactic(auto)]
+
 ghost use Rattle.std.specs.Prelude.{◌≤◌};
 
 use map::{MapAnswer, TrackAnswer};

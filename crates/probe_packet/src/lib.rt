@@ -1,4 +1,6 @@
 // The probe's answers of one packet, and of a walker.
+#![tactic(auto)]
+
 use locator::{LocatorAnswer, PositionAnswer};
 use media::{Media, MediaAnswer};
 use packet::PacketAnswer;

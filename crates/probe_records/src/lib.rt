@@ -1,5 +1,7 @@
 // A caller of `map_records::fill`: it lends a part of a local array of records, and hands the array back by value with the answer.
 // `lend` makes a reference to structs, so it is proved by hand, and thin. Callers of `fill` need no proof by hand.
+#![tactic(auto)]
+
 ghost use Rattle.std.specs.Prelude.{◌≡◌, ◌≤◌, replicate};
 ghost use Rattle.probe_records.specs.Lent.{afterwards, after_fill, lent_of};
 
@@ -7,7 +9,7 @@ use map::MapAnswer;
 use map_answer::Track;
 
 // The answer of a call, and all records as it left them.
-#[derive(Drop)]
+#[derive(Clone, Copy)]
 pub struct After {
     pub answer: MapAnswer,
     pub records: [Track; 80],

@@ -1,4 +1,5 @@
 // What a request to the probe brings on standard input: its numbers and its byte strings.
+#![tactic(auto)]
 
 // How many bytes a function's numbers take; 32 for none of the table.
 pub fn numbers_of(function: u8) -> usize {

@@ -1,4 +1,6 @@
 // What the probe lends: a room that is filled before the call, and numbers from a request's bytes.
+#![tactic(auto)]
+
 ghost use Rattle.std.specs.Prelude.{◌≤◌, length};
 
 // Byte i is i * 7 + 3 modulo 256.

@@ -1,4 +1,6 @@
 // The probe's words for what a map says: numbers, codes, places, the material and a track's record.
+#![tactic(auto)]
+
 use map_answer::{Code, Material, Track, Value};
 use map_aspect::Aspect;
 use map_items::Part;

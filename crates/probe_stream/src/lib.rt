@@ -1,4 +1,6 @@
 // The probe's answers of a whole stream, and of its seek book.
+#![tactic(auto)]
+
 use book::LookupAnswer;
 use book_builder::BuildAnswer;
 use stream::{CheckAnswer, SeekAnswer};

@@ -1,4 +1,6 @@
 // The probe's answers of a track's texts: its name, by one map or two, and the parameters of an auxiliary text.
+#![tactic(auto)]
+
 use map_name::{NameAnswer, TwoAnswer};
 use mpeg::MpegAnswer;
 use mpeg_parameter::{ParameterValue, Parameters};

@@ -1,4 +1,6 @@
 // The probe's answers of the writers of a locator table and a map, and the lent room after them.
+#![tactic(auto)]
+
 use packet_writer::WriteAnswer;
 
 fn write_words(out: &mut [u8], a: WriteAnswer) -> usize {

@@ -1,4 +1,6 @@
 // The bench readings that run: streams of 99 and 100 packets without a map, maps and a stream that are cut, rates of auxiliary texts, and streams that a multiplexer made.
+#![tactic(auto)]
+
 use console::{figure, load, refused, say};
 use map::{MapAnswer, TrackAnswer};
 use map_answer::{Code, Material, Value};

@@ -1,4 +1,6 @@
 // What a media description of a UMF says of its segment, by value: track, fields and marks, name, type, rate, size, and the specification of its type.
+#![tactic(auto)]
+
 ghost use Rattle.std.specs.Prelude.{◌≡◌, ◌+◌, ◌≤◌, ◌<◌, ◌^◌, length};
 ghost use Rattle.number.specs.Number.{le};
 ghost use Rattle.map_items.specs.Judge.{has};
@@ -11,14 +13,14 @@ use plate::Refusal;
 use umf::{Described, PlaceAnswer};
 
 // A level, as its stored 64-bit float, if it is a number and in its range.
-#[derive(Drop)]
+#[derive(Clone, Copy)]
 pub enum Level {
     Is(f64),
     Absent,
 }
 
 // Color difference format, GOP structure, frame or field structure, target pictures, attributes.
-#[derive(Drop)]
+#[derive(Clone, Copy)]
 pub struct Mpeg {
     pub format: Value,
     pub gop: Value,
@@ -30,7 +32,7 @@ pub struct Mpeg {
 }
 
 // The level to play at and the one to end at, and the fields over which to come to each.
-#[derive(Drop)]
+#[derive(Clone, Copy)]
 pub struct Audio {
     pub level: Level,
     pub end_level: Level,
@@ -39,7 +41,7 @@ pub struct Audio {
 }
 
 // The levels of quantification: most and least, of color difference and luma.
-#[derive(Drop)]
+#[derive(Clone, Copy)]
 pub struct Jpeg {
     pub most_color: Level,
     pub most_luma: Level,
@@ -48,7 +50,7 @@ pub struct Jpeg {
 }
 
 // The specification of a segment's type; ancillary data has one without a word in it.
-#[derive(Drop)]
+#[derive(Clone, Copy)]
 pub enum Specification {
     OfMpeg(Mpeg),
     OfTimeCode(Value),
@@ -60,7 +62,7 @@ pub enum Specification {
     Absent,
 }
 
-#[derive(Drop)]
+#[derive(Clone, Copy)]
 pub struct Segment {
     pub track: Value,
     pub sequence: u32,
@@ -75,7 +77,7 @@ pub struct Segment {
     pub specification: Specification,
 }
 
-#[derive(Drop)]
+#[derive(Clone, Copy)]
 pub enum SegmentAnswer {
     Says(Segment),
     Refused(Refusal),

@@ -1,4 +1,6 @@
 // The source device's name of a segment of a UMF, handed out as the part of the lent bytes that holds it, without the closing 00.
+#![tactic(auto)]
+
 ghost use Rattle.std.specs.Prelude.{◌≡◌};
 ghost use Rattle.source_name.specs.SourceName.{of_part, name_at, name_bytes, place_in};
 
@@ -7,7 +9,7 @@ use plate::Refusal;
 use segment::SegmentAnswer;
 
 // Where a name stands in its packet, and its length without the 00.
-#[derive(Drop)]
+#[derive(Clone, Copy)]
 pub enum SourceNameAnswer {
     At(usize, usize),
     Absent,

@@ -1,4 +1,6 @@
 // The check of a whole stream in one pass, and seek: the first media packet that carries a field of a track.
+#![tactic(auto)]
+
 ghost use Rattle.std.specs.Prelude.{◌≡◌, true, false, ◌<◌, length, get_or};
 ghost use Rattle.plate.specs.Plate.{refusal};
 ghost use Rattle.stream.specs.Stream.{carries_piece, ran_out, check_of, seek_of};
@@ -10,33 +12,33 @@ use piece::{Piece, PieceAnswer};
 use plate::Refusal;
 
 // An offset, if there is one.
-#[derive(Drop)]
+#[derive(Clone, Copy)]
 pub enum Spot {
     At(usize),
     Nothing,
 }
 
 // An accepted stream has so many packets.
-#[derive(Drop)]
+#[derive(Clone, Copy)]
 pub enum CheckAnswer {
     Packets(usize),
     Refused(Refusal),
 }
 
-#[derive(Drop)]
+#[derive(Clone, Copy)]
 pub enum SeekAnswer {
     At(usize),
     Refused(Refusal),
 }
 
 // What one pass over an accepted stream gives: its packets, and the first that carries a field of a track.
-#[derive(Drop)]
+#[derive(Clone, Copy)]
 pub struct Pass {
     pub count: usize,
     pub first: Spot,
 }
 
-#[derive(Drop)]
+#[derive(Clone, Copy)]
 pub enum Run {
     Passed(Pass),
     Refused(Refusal),

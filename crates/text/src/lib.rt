@@ -1,4 +1,6 @@
 // The text rule: one byte at least, 00 last and nowhere else, none over 7F.
+#![tactic(auto)]
+
 ghost use Rattle.std.specs.Prelude.{◌≡◌};
 ghost use Rattle.text.specs.Text.{text_ok};
 

@@ -1,5 +1,7 @@
 // Maps that were made outside, each followed by its twin, which lacks what the reader doesn't know: whether the two answer alike, places aside, and the aspects of their tracks.
 // The last pairs are no twins and must not.
+#![tactic(auto)]
+
 use console::say;
 use map::{MapAnswer, TrackAnswer};
 use map_answer::{Code, Material, Track, Value};

@@ -1,4 +1,6 @@
 // The UMF packet: its preamble, and of a whole UMF the sections of tracks, segments and user records, taken apart by lengths, judged in order, and where each stands.
+#![tactic(auto)]
+
 ghost use Rattle.std.specs.Prelude.{◌≡◌, false, ◌+◌, ◌≤◌, ◌<◌, ◌^◌, length, eqb};
 ghost use Rattle.plate.specs.Choice.{pick};
 ghost use Rattle.number.specs.Number.{le};
@@ -13,7 +15,7 @@ use packet::PacketAnswer;
 use plate::Refusal;
 
 // What a section has: track descriptions, media descriptions of segments, or user data records.
-#[derive(Drop)]
+#[derive(Clone, Copy)]
 pub enum Described {
     Tracks,
     Segments,
@@ -21,7 +23,7 @@ pub enum Described {
 }
 
 // What stands at the start of the rest of a section: one more, of so many bytes; nothing, and nothing has to; or one that does not fit.
-#[derive(Drop)]
+#[derive(Clone, Copy)]
 pub enum Step {
     More(usize),
     Used,
@@ -29,7 +31,7 @@ pub enum Step {
 }
 
 // A walk of a section: how many there are, the bytes that they take, and whether none was met that does not fit.
-#[derive(Drop)]
+#[derive(Clone, Copy)]
 pub struct Walked {
     pub number: usize,
     pub bytes: usize,
@@ -37,7 +39,7 @@ pub struct Walked {
 }
 
 // Where in a packet a description or record stands, and its length.
-#[derive(Drop)]
+#[derive(Clone, Copy)]
 pub enum PlaceAnswer {
     At(usize, usize),
     Refused(Refusal),

@@ -1,4 +1,6 @@
 // What a UMF says, by value: its preamble, its payload and material descriptions, a track, a user record.
+#![tactic(auto)]
+
 ghost use Rattle.std.specs.Prelude.{◌≡◌, false, ◌+◌, ◌*◌, ◌≤◌, ◌<◌, ◌^◌, ◌/◌, ◌%◌, length, eqb};
 ghost use Rattle.plate.specs.Choice.{pick, within};
 ghost use Rattle.number.specs.Number.{le};
@@ -14,14 +16,14 @@ use plate::Refusal;
 use umf::{Described, PlaceAnswer};
 
 // The preamble: its flag, if it is one, and the payload data length.
-#[derive(Drop)]
+#[derive(Clone, Copy)]
 pub struct Preamble {
     pub flag: Value,
     pub len: u32,
 }
 
 // The payload description: the length of all, the version, the numbers of tracks and segments, and where the sections stand.
-#[derive(Drop)]
+#[derive(Clone, Copy)]
 pub struct Payload {
     pub total: u32,
     pub version: Value,
@@ -36,7 +38,7 @@ pub struct Payload {
 }
 
 // The material description: attributes, lengths and marks in fields, time codes at the marks, two times, and the numbers of tracks.
-#[derive(Drop)]
+#[derive(Clone, Copy)]
 pub struct Material {
     pub attributes: u32,
     pub longest: u32,
@@ -53,7 +55,7 @@ pub struct Material {
 }
 
 // A whole UMF, flag 3: the payload data length, both descriptions, and the number of user records.
-#[derive(Drop)]
+#[derive(Clone, Copy)]
 pub struct Umf {
     pub len: u32,
     pub payload: Payload,
@@ -61,7 +63,7 @@ pub struct Umf {
     pub users: usize,
 }
 
-#[derive(Drop)]
+#[derive(Clone, Copy)]
 pub enum UmfAnswer {
     Opened(Umf),
     // A part of a UMF split over packets, or of a reserved flag.
@@ -70,20 +72,20 @@ pub enum UmfAnswer {
 }
 
 // A track: its type's letter and its number in one number, and how many segments it has.
-#[derive(Drop)]
+#[derive(Clone, Copy)]
 pub struct TrackSays {
     pub track: Value,
     pub segments: u32,
 }
 
-#[derive(Drop)]
+#[derive(Clone, Copy)]
 pub enum TrackAnswer {
     Says(TrackSays),
     Refused(Refusal),
 }
 
 // The track that a user record is of.
-#[derive(Drop)]
+#[derive(Clone, Copy)]
 pub enum Owner {
     Track(u32),
     NoTrack,
@@ -91,7 +93,7 @@ pub enum Owner {
 }
 
 // A user record: its position, track, media sequence number and key, and where its data stands.
-#[derive(Drop)]
+#[derive(Clone, Copy)]
 pub struct UserSays {
     pub position: u32,
     pub owner: Owner,
@@ -101,7 +103,7 @@ pub struct UserSays {
     pub len: usize,
 }
 
-#[derive(Drop)]
+#[derive(Clone, Copy)]
 pub enum UserAnswer {
     Says(UserSays),
     Refused(Refusal),

@@ -1,5 +1,7 @@
 // The walker: a struct that holds a stream and a place in it. A step reads the packet at the place by the packet reader and moves on.
 // The functions over the struct are proved by hand and thin. `walk` takes a plain slice and numbers: callers of it need no proof by hand.
+#![tactic(auto)]
+
 ghost use Rattle.std.specs.Prelude.{◌≡◌, length};
 ghost use Rattle.packet.specs.Packet.{header_at};
 ghost use Rattle.walker.specs.Walk.{place_after, Made, Stepped, stop, walk_of};
@@ -7,14 +9,14 @@ ghost use Rattle.walker.specs.Inside.{turns_of};
 
 use packet::PacketAnswer;
 
-#[derive(Drop)]
+#[derive(Clone, Copy)]
 pub struct Walker<'a> {
     pub stream: &'a [u8],
     pub at: usize,
 }
 
 // Where a walk stops: the place, and what stands there.
-#[derive(Drop)]
+#[derive(Clone, Copy)]
 pub struct Stop {
     pub at: usize,
     pub answer: PacketAnswer,

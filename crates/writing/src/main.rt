@@ -1,4 +1,6 @@
 // The writers at work, and their bench readings: the map M written from words and read back, a field number of 33 bits, a place beyond all buffers, the largest map, and a locator table.
+#![tactic(auto)]
+
 use console::{figure, say};
 use locator::PositionAnswer;
 use map::{MapAnswer, TrackAnswer};
