@@ -1,0 +1,15 @@
+use borrow.Author.Rules.{rules}
+use native.Mathlib.Omega.{arith}
+use Prim.Native.Nat.{◌<◌, ◌-◌}
+use mathlib.Core.Path.{sym, ◌∙◌, refl}
+use lib.ListN.{length}
+use Rattle.mpeg.specs.Inside.{Skipped}
+use Rattle.mpeg.proofs.Turns.{next_in}
+use Rattle.mpeg.proofs.Judging.{skip_more}
+use Rattle.mpeg.proofs.skip.Given as goal
+
+abbrev pub invariant-loop-at : goal.invariant-loop-at
+invariant-loop-at l = Skipped l.s l.from l.at
+
+abbrev pub decreases-loop-at : goal.decreases-loop-at
+decreases-loop-at l = length l.s - l.at

@@ -1,0 +1,36 @@
+use borrow.Author.Rules.{rules}
+use Rattle.umf.proofs.next.Reads as reads
+use Rattle.umf.proofs.next.Lts as lts
+use Rattle.umf.proofs.is_used.Reads as is-used-reads
+use Rattle.umf.proofs.least.Reads as least-reads
+use Rattle.umf.proofs.stated.Reads as stated-reads
+use borrow.Author.Rules.{rules}
+use native.Mathlib.Omega.{arith}
+use Rattle.plate.proofs.Tests.{tests}
+use borrow.Author.Tests.{lt-leb, le-leb}
+use mathlib.Core.Path.{sym, ◌∙◌}
+use lib.ListN.{length}
+use Rattle.umf.specs.Split.{least_of, stated_of, step_of}
+use Rattle.umf.proofs.Turns.{under}
+use Rattle.umf.proofs.next.Goals as goal
+
+pub returns-then-is_used : goal.returns-then-is_used
+unfolding step_of
+returns-then-is_used c = simp (sym c.is_used.ensures ∙ c.if-is_used.true)
+
+pub returns-then-left-fixed : goal.returns-then-left-fixed
+unfolding step_of
+returns-then-left-fixed c = let a = c.args in
+    simp (sym c.is_used.ensures ∙ c.if-is_used.false, under (least_of a.kind) (length a.d.now) (stated_of a.kind a.d.now) (omega (arith, c.if-left-fixed.true, c.least-fixed.ensures)))
+
+pub returns-then-m-fixed : goal.returns-then-m-fixed
+unfolding step_of
+returns-then-m-fixed c = simp (sym c.least-fixed.ensures, sym c.stated-m.ensures, sym c.is_used.ensures ∙ c.if-is_used.false, lt-leb _ _ c.if-m-fixed.true)
+
+pub returns-then-left-m : goal.returns-then-left-m
+unfolding step_of
+returns-then-left-m c = simp (sym c.least-fixed.ensures, sym c.stated-m.ensures, sym c.is_used.ensures ∙ c.if-is_used.false, le-leb _ _ c.if-m-fixed.false, lt-leb _ _ c.if-left-m.true)
+
+pub returns : goal.returns
+unfolding step_of
+returns c = simp (sym c.least-fixed.ensures, sym c.stated-m.ensures, sym c.is_used.ensures ∙ c.if-is_used.false, le-leb _ _ c.if-m-fixed.false, le-leb _ _ c.if-left-m.false)
