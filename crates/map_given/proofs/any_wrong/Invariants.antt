@@ -1,0 +1,15 @@
+use borrow.Author.Rules.{rules}
+use native.Mathlib.Omega.{arith}
+use Prim.Native.Nat.{◌+◌, ◌*◌, ◌≤◌}
+use mathlib.Core.Path.{◌≡◌, refl, sym, ◌∙◌}
+use lib.ListN.{length}
+use Rattle.map_given.specs.Given.{tracks_from, tracks_given}
+use Rattle.map_given.specs.Faults.{any_wrong}
+use Rattle.map_given.proofs.Laws.{any_wrong_here, any_wrong_later, any_wrong_out}
+use Rattle.map_given.proofs.any_wrong.Given as goal
+
+abbrev pub invariant-loop-left : goal.invariant-loop-left
+invariant-loop-left l = (l.at + 23 * l.left ≤ length l.tracks) × (any_wrong (tracks_given l.tracks) ≡ any_wrong (tracks_from l.left l.tracks l.at))
+
+abbrev pub decreases-loop-left : goal.decreases-loop-left
+decreases-loop-left l = l.left

@@ -1,0 +1,16 @@
+use borrow.Author.Rules.{rules}
+use borrow.Author.Tests.{lt-ltb, le-ltb}
+use Rattle.map_given.specs.Inside.{flag_fault}
+use Rattle.map_given.proofs.id_fault.Goals as goal
+
+pub returns-then-id-gt63 : goal.returns-then-id-gt63
+unfolding flag_fault
+returns-then-id-gt63 c = simp (lt-ltb _ _ c.if-id-gt63.true)
+
+pub returns-then-used-k : goal.returns-then-used-k
+unfolding flag_fault
+returns-then-used-k c = simp (le-ltb _ _ c.if-id-gt63.false, c.if-used-k.true)
+
+pub returns : goal.returns
+unfolding flag_fault
+returns c = simp (le-ltb _ _ c.if-id-gt63.false, c.if-used-k.false)

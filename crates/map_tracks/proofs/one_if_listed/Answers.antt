@@ -1,0 +1,9 @@
+use borrow.Author.Rules.{rules}
+use mathlib.Core.Path.{sym, ◌∙◌}
+use Rattle.map_tracks.proofs.one_if_listed.Goals as goal
+
+pub returns-then-is_listed : goal.returns-then-is_listed
+returns-then-is_listed c = rw (sym c.is_listed.ensures ∙ c.if-is_listed.true)
+
+pub returns : goal.returns
+returns c = rw (sym c.is_listed.ensures ∙ c.if-is_listed.false)

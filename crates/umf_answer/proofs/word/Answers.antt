@@ -1,0 +1,11 @@
+use borrow.Author.Rules.{rules}
+use Rattle.umf_answer.proofs.word.Reads as reads
+use Rattle.umf_answer.proofs.word.Lts as lts
+use Rattle.number.proofs.le4.Reads as le4-reads
+use borrow.Author.Rules.{rules}
+use native.Mathlib.Omega.{arith}
+use Rattle.number.proofs.Laws.{le_lt}
+use Rattle.umf_answer.proofs.word.Goals as goal
+
+pub overflow_cast-result : goal.overflow_cast-result
+overflow_cast-result c = let a = c.args in search (rules, c.le4.ensures, le_lt a.d.now c.type_inv.d a.at 4)
