@@ -1,0 +1,32 @@
+use borrow.Author.Rules.{rules}
+use native.Mathlib.Omega.{arith}
+use mathlib.Core.Path.{sym, ◌∙◌}
+use Rattle.map.proofs.Laws.{both_within, one_within}
+use Rattle.map.proofs.material_part.Goals as goal
+
+pub slice_bounds-result-count : goal.slice_bounds-result-count
+slice_bounds-result-count c = let w = both_within _ _ _ (sym c.layout_of.ensures ∙ c.in-Both.is) in omega arith
+
+pub slice_bounds-result-start : goal.slice_bounds-result-start
+slice_bounds-result-start c = let w = both_within _ _ _ (sym c.layout_of.ensures ∙ c.in-Both.is) in omega arith
+
+pub slice_bounds-result-end : goal.slice_bounds-result-end
+slice_bounds-result-end c = let w = both_within _ _ _ (sym c.layout_of.ensures ∙ c.in-Both.is) in omega arith
+
+pub slice_bounds-result-count-in-One : goal.slice_bounds-result-count-in-One
+slice_bounds-result-count-in-One c = let w = one_within _ _ (sym c.layout_of.ensures ∙ c.in-One.is) in omega arith
+
+pub slice_bounds-result-start-in-One : goal.slice_bounds-result-start-in-One
+slice_bounds-result-start-in-One c = let w = one_within _ _ (sym c.layout_of.ensures ∙ c.in-One.is) in omega arith
+
+pub slice_bounds-result-end-in-One : goal.slice_bounds-result-end-in-One
+slice_bounds-result-end-in-One c = let w = one_within _ _ (sym c.layout_of.ensures ∙ c.in-One.is) in omega arith
+
+pub returns-in-Both : goal.returns-in-Both
+returns-in-Both c = rw (sym c.layout_of.ensures ∙ c.in-Both.is)
+
+pub returns-in-One : goal.returns-in-One
+returns-in-One c = rw (sym c.layout_of.ensures ∙ c.in-One.is)
+
+pub returns-in-Neither : goal.returns-in-Neither
+returns-in-Neither c = rw (sym c.layout_of.ensures ∙ c.in-Neither.is)
