@@ -1,0 +1,25 @@
+use borrow.Author.Rules.{rules}
+use native.Mathlib.Omega.{arith}
+use mathlib.Core.Path.{◌∙◌}
+use Rattle.map_given.proofs.Clean.{clean}
+use Rattle.map_writer.proofs.Packet.{zero_bytes, packet_runs}
+use Rattle.map_writer.proofs.put_packet.Goals as goal
+
+pub put_slots-requires : goal.put_slots-requires
+put_slots-requires c = let p = c.requires in
+    let g = clean _ _ _ p.3 in
+    let e = p.1 in
+    (omega (arith, g.words), omega arith, omega (arith, p.0, c.put_be.auto.0, c.put_front.auto.0), g.material)
+
+pub put_tracks-requires : goal.put_tracks-requires
+put_tracks-requires c = let p = c.requires in
+    let g = clean _ _ _ p.3 in
+    let e = p.2 in
+    (omega (arith, p.0, c.put_be-2.auto.0, c.put_slots.auto.0, c.put_be.auto.0, c.put_front.auto.0), g.tracks, g.ids)
+
+pub returns : goal.returns
+returns c = let a = c.args in
+    let p = c.requires in
+    c.put_be-3.ensures
+    ∙ rw (zero_bytes, c.put_tracks.ensures, c.put_be-2.ensures, c.put_slots.ensures, c.put_be.ensures, c.put_front.ensures)
+    (packet_runs a.text.now a.material.now a.tracks.now (clean _ _ _ p.3) a.out.now a.m a.t _ p.1 p.2 c.padding_of-pad.ensures)
