@@ -9,13 +9,13 @@ pub put_slots-requires : goal.put_slots-requires
 put_slots-requires c = let p = c.requires in
     let g = clean _ _ _ p.3 in
     let e = p.1 in
-    (omega (arith, g.words), omega arith, omega (arith, p.0, c.put_be.auto.0, c.put_front.auto.0), g.material)
+    (omega (arith, g.words), omega arith, omega (arith, p.0, c.put_be.auto.out, c.put_front.auto.out), g.material)
 
 pub put_tracks-requires : goal.put_tracks-requires
 put_tracks-requires c = let p = c.requires in
     let g = clean _ _ _ p.3 in
     let e = p.2 in
-    (omega (arith, p.0, c.put_be-2.auto.0, c.put_slots.auto.0, c.put_be.auto.0, c.put_front.auto.0), g.tracks, g.ids)
+    (omega (arith, p.0, c.put_be-2.auto.out, c.put_slots.auto.out, c.put_be.auto.out, c.put_front.auto.out), g.tracks, g.ids)
 
 pub returns : goal.returns
 returns c = let a = c.args in

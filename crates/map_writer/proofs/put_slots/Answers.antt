@@ -30,7 +30,7 @@ overflow_add-to c = let l = c.loop-left in
 pub loop-left-preserved : goal.loop-left-preserved
 loop-left-preserved c = let l = c.loop-left in
     rw (c.slot_size-to.ensures, c.slot_at-s.ensures)
-    (slots_turn _ _ _ _ _ _ _ _ _ c.loop-left-test.true l.invariant _ (c.put_slot.auto.0 ∙ l.invariant.long) (c.put_slot.ensures ∙ rw c.slot_at-s.ensures))
+    (slots_turn _ _ _ _ _ _ _ _ _ c.loop-left-test.true l.invariant _ (c.put_slot.auto.out ∙ l.invariant.long) (c.put_slot.ensures ∙ rw c.slot_at-s.ensures))
 
 pub shape_of-out : goal.shape_of-out
 shape_of-out c = c.loop-left.invariant.long

@@ -8,7 +8,7 @@ use Rattle.map_writer.proofs.Puts.{text_run}
 use Rattle.map_writer.proofs.put_text.Goals as goal
 
 pub shape_of-out : goal.shape_of-out
-shape_of-out c = simp length-set (c.copy.auto.0 ∙ c.put_two.auto.0)
+shape_of-out c = simp length-set (c.copy.auto.out ∙ c.put_two.auto.out)
 
 pub returns : goal.returns
 returns c = let a = c.args in

@@ -39,7 +39,7 @@ overflow_add-to-in-loop-left c = let z = track_room _ _ _ _ _ _ _ _ c.loop-left-
 
 pub loop-left-preserved : goal.loop-left-preserved
 loop-left-preserved c = let l = c.loop-left in
-    rw c.slots_size-size.ensures (tracks_turn _ _ _ _ _ _ _ _ c.loop-left-test.true l.invariant _ (c.put_track.auto.0 ∙ l.invariant.long) c.put_track.ensures)
+    rw c.slots_size-size.ensures (tracks_turn _ _ _ _ _ _ _ _ c.loop-left-test.true l.invariant _ (c.put_track.auto.out ∙ l.invariant.long) c.put_track.ensures)
 
 pub shape_of-out : goal.shape_of-out
 shape_of-out c = c.loop-left.invariant.long
