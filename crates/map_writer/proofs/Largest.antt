@@ -43,7 +43,7 @@ module _ (text ms ts : List ℕ) (c : Clean text ms ts) where
       let b = section_most text ms ts c in
       record {
         count = omega (arith, most_64 (tracks_given ts) c.ids, length-map (tracks_given ts) (parts_of_track text));
-        track = each_as {Q = λ n. n ≤ 542} (λ n h. omega arith) (map (parts_of_track text) (tracks_given ts)) (tracks_most text ts (length ts / 23) 0 c.tracks).1;
+        track = each_as {P = λ n. n ≤ 542} {Q = λ n. n ≤ 542} (λ n h. omega arith) (map (parts_of_track text) (tracks_given ts)) (tracks_most text ts (length ts / 23) 0 c.tracks).1;
         track_section = omega arith;
         material_section = omega arith;
         used = omega arith;
