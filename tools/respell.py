@@ -20,6 +20,7 @@ FIRST = {
     "piece/proofs/Fields.antt": {"of_map": "of_map_lem"},
     "piece/proofs/Maps.antt": {"of_map": "of_map_lem"},
     "piece/proofs/Laws.antt": {"of_map": "of_map_lem"},
+    "book_builder/proofs/Seen.antt": {"of_map": "of_map_lem"},
     "stream/proofs/RunsOut.antt": {"on_step": "on_step_lem"},
     "stream/proofs/Torn.antt": {"on_step": "on_step_lem"},
 }

@@ -64,9 +64,9 @@ content_seen p at packet_type x = go (eqb packet_type 0xBF) (eqb packet_type 0xB
         let a : other_piece r p ≡ x = cc in
         record { of_media_lem = λ z. absurd (eqb-false packet_type 0xBF n z); of_other = λ z. sym a ∙ rw q refl }
 
-    of_map : (v : Verdict) → packet_type ≡ 0xBC → eqb packet_type 0xBF ≡ false → of_map at (length p) v ≡ Whole x → Content p packet_type x
-    of_map verdict.Accepted q n e = plain 0xBC q n e
-    of_map (verdict.Refused r) q n e = absurd (let z : ◌≡◌ {A = ℕ} 0 1 = cc in omega arith)
+    of_map_lem : (v : Verdict) → packet_type ≡ 0xBC → eqb packet_type 0xBF ≡ false → of_map at (length p) v ≡ Whole x → Content p packet_type x
+    of_map_lem verdict.Accepted q n e = plain 0xBC q n e
+    of_map_lem (verdict.Refused r) q n e = absurd (let z : ◌≡◌ {A = ℕ} 0 1 = cc in omega arith)
 
     of_locator_lem : (v : LocatorAnswer) → packet_type ≡ 0xFC → eqb packet_type 0xBF ≡ false → of_locator at (length p) v ≡ Whole x → Content p packet_type x
     of_locator_lem (locator.Table t) q n e = plain 0xFC q n e
@@ -83,7 +83,7 @@ content_seen p at packet_type x = go (eqb packet_type 0xBF) (eqb packet_type 0xB
         → pick a (of_media at (length p) (preamble_of p 0)) (pick b (of_map at (length p) (map_verdict p)) (pick d (of_locator at (length p) (table_of p)) (plain_piece packet_type (length p)))) ≡ Whole x
         → Content p packet_type x
     go true b d h i j e = of_media_lem (preamble_of p 0) refl (eqb-true packet_type 0xBF h) e
-    go false true d h i j e = of_map (map_verdict p) (eqb-true packet_type 0xBC i) h e
+    go false true d h i j e = of_map_lem (map_verdict p) (eqb-true packet_type 0xBC i) h e
     go false false true h i j e = of_locator_lem (table_of p) (eqb-true packet_type 0xFC j) h e
     go false false false h i j e = plain packet_type refl h e
 

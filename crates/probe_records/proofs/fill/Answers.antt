@@ -1,0 +1,6 @@
+use borrow.Author.Rules.{rules}
+use mathlib.Core.Path.{◌∙◌}
+use Rattle.probe_records.proofs.fill.Goals as goal
+
+pub returns : goal.returns
+returns c = c.lend.ensures ∙ rw c.lent_of.ensures.0
