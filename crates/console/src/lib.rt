@@ -5,21 +5,28 @@ ghost use Rattle.std.specs.Prelude.{◌≤◌, ◌≡◌, length};
 ghost use Rattle.io.specs.Counts.{IsPrefixLen};
 ghost use Rattle.console.specs.Bits.{bits_of};
 
-use libc::{STDIN_FILENO, STDOUT_FILENO};
 use plate::Refusal;
+use std::fs::File;
+use std::io::Read;
+use std::rt::Files;
+
+// The descriptors that a program begins with.
+const STANDARD_INPUT: i32 = 0;
+
+pub const STANDARD_OUTPUT: i32 = 1;
 
 // A text as it is.
 pub fn say(text: &[u8])
     ensures { result ≡ tt }
 {
-    io::write_all(STDOUT_FILENO, text);
+    io::write_all(STANDARD_OUTPUT, text);
 }
 
 // A number in decimal.
 pub fn number(n: u64)
     ensures { result ≡ tt }
 {
-    io::print_decimal(STDOUT_FILENO, n);
+    io::print_decimal(STANDARD_OUTPUT, n);
 }
 
 // A space and a number.
@@ -46,21 +53,52 @@ pub fn refused(r: Refusal)
 pub fn take(buffer: &mut [u8]) -> usize
     ensures { IsPrefixLen result buffer.new }
 {
-    io::read_full(STDIN_FILENO, buffer)
+    io::read_full(STANDARD_INPUT, buffer)
 }
 
-// A file's first bytes into a lent buffer: how many; none where it cannot be read.
-pub fn load(path: &[u8], buffer: &mut [u8]) -> usize
+// What a reader gives, into a lent buffer, until it is full, the bytes end or a read fails: how many.
+fn fill<F: Read>(file: &mut F, buffer: &mut [u8]) -> usize
     ensures { result ≤ length buffer.old }
 {
-    let file = os::open_read(path);
-    if file < 0 {
-        os::fail(path);
-        return 0;
+    let mut done = 0;
+    while done < buffer.len() {
+        match file.read(&mut buffer[done..]) {
+            Ok(n) => {
+                if n == 0 {
+                    return done;
+                }
+                done += n;
+            }
+            Err(_) => {
+                return done;
+            }
+        }
     }
-    let n = io::read_full(file, buffer);
-    libc::close(file);
-    n
+    done
+}
+
+// Says on standard error why a file is not read.
+fn complain<R: Eprint>(rt: &R, path: &str, why: std::io::Error) {
+    let _ = eprintln!(rt; "{path}: {why}");
+}
+
+// A file's first bytes into a lent buffer: how many; none where it cannot be read. A path that is no text names no file.
+pub fn load<R: Files + Eprint>(rt: &R, path: &[u8], buffer: &mut [u8]) -> usize
+    ensures { result ≤ length buffer.old }
+{
+    let Ok(name) = str::from_utf8(path) else {
+        return 0;
+    };
+    match File::open(rt, name) {
+        Ok(opened) => {
+            let mut file = opened;
+            fill(&mut file, buffer)
+        }
+        Err(why) => {
+            complain(rt, name, why);
+            0
+        }
+    }
 }
 
 // A float's bits; of what is no number, which the library gives nowhere, 0.

@@ -2,8 +2,6 @@
 // What it prints is compared, not proved: it is proved safe and to end, and so are the libraries that serve it alone, `probe_` and a name.
 #![tactic(auto)]
 
-use libc::STDOUT_FILENO;
-
 fn writers(out: &mut [u8], function: u8, x: u64, y: u64, z: u64, a: &[u8]) -> usize {
     match function {
         11 => probe_stream::build(out, a, x as usize),
@@ -74,7 +72,7 @@ fn write_line(out: &mut [u8], n: usize) -> bool {
     if out.len() < k {
         return false;
     }
-    io::write_all(STDOUT_FILENO, &out[0..k])
+    io::write_all(console::STANDARD_OUTPUT, &out[0..k])
 }
 
 // Answers the next request; whether to go on.

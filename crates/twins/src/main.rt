@@ -332,16 +332,16 @@ fn show_pairs(label: &[u8], s: &[u8]) {
     }
 }
 
-fn show_file(path: &[u8], label: &[u8]) {
+fn show_file(rt: &HostRuntime, path: &[u8], label: &[u8]) {
     let mut buffer = [0u8; 131072];
-    let n = console::load(path, &mut buffer);
+    let n = console::load(rt, path, &mut buffer);
     say(path);
     say(b"\n");
     show_pairs(label, &buffer[0..n]);
 }
 
-fn main() {
-    show_file(b"pairs.gxf", b"pair");
-    show_file(b"full.gxf", b"pair");
-    show_file(b"controls.gxf", b"control");
+fn main(rt: HostRuntime) {
+    show_file(&rt, b"pairs.gxf", b"pair");
+    show_file(&rt, b"full.gxf", b"pair");
+    show_file(&rt, b"controls.gxf", b"control");
 }

@@ -1,0 +1,13 @@
+use borrow.Author.Rules.{rules}
+use native.Mathlib.Omega.{arith}
+use Prim.Native.Nat.{◌+◌, ◌*◌, ◌-◌, ◌≤◌}
+use mathlib.Core.Path.{◌≡◌, refl, ◌∙◌}
+use borrow.Rule.Slice.PartMut.{same_len_mid}
+use lib.ListN.{length}
+use Rattle.writing.proofs.fill_tracks.Goals as goal
+
+pub loop-id-init : goal.loop-id-init
+loop-id-init c = (refl, omega arith, refl)
+
+pub loop-id-preserved : goal.loop-id-preserved
+loop-id-preserved c = let l = c.loop-id in (omega (arith, l.invariant.0), omega arith, same_len_mid l.at (length l.tracks - l.at) l.tracks c.fill_track.new.0 c.fill_track.auto.out ∙ l.invariant.2)
