@@ -151,26 +151,26 @@ fn show_stream(s: &[u8]) {
     show_seek(s, 0, 4294967296);
 }
 
-fn stream_file(path: &[u8]) {
+fn stream_file(rt: &HostRuntime, path: &[u8]) {
     let mut buffer = [0u8; 131072];
-    let n = load(path, &mut buffer);
+    let n = load(rt, path, &mut buffer);
     say(path);
     say(b": ");
     show_stream(&buffer[0..n]);
 }
 
-fn check_file(path: &[u8]) {
+fn check_file(rt: &HostRuntime, path: &[u8]) {
     let mut buffer = [0u8; 4096];
-    let n = load(path, &mut buffer);
+    let n = load(rt, path, &mut buffer);
     say(path);
     say(b": ");
     show_check(&buffer[0..n]);
 }
 
 // What the listing prints of a stream.
-fn list_file(path: &[u8]) {
+fn list_file(rt: &HostRuntime, path: &[u8]) {
     let mut buffer = [0u8; 4096];
-    let n = load(path, &mut buffer);
+    let n = load(rt, path, &mut buffer);
     say(b"list ");
     say(path);
     say(b": ");
@@ -202,9 +202,9 @@ fn show_rate(text: &[u8], want: u64) {
     }
 }
 
-fn rate_file(path: &[u8], value: &[u8], want: u64) {
+fn rate_file(rt: &HostRuntime, path: &[u8], value: &[u8], want: u64) {
     let mut buffer = [0u8; 256];
-    let n = load(path, &mut buffer);
+    let n = load(rt, path, &mut buffer);
     say(b"Br ");
     say(value);
     say(b": ");
@@ -212,51 +212,51 @@ fn rate_file(path: &[u8], value: &[u8], want: u64) {
 }
 
 // The bits of a rate that is refused are not looked at.
-fn rates() {
-    rate_file(b"br_0.txt", b"0.5", 0x3FE0000000000000);
-    rate_file(b"br_1.txt", b"9007199254.740992", 0x4200C6F7A0B5ED8D);
-    rate_file(b"br_2.txt", b"9007199254.740993", 0);
-    rate_file(b"br_3.txt", b"0", 0x0000000000000000);
-    rate_file(b"br_4.txt", b"0.000001", 0x3EB0C6F7A0B5ED8D);
+fn rates(rt: &HostRuntime) {
+    rate_file(rt, b"br_0.txt", b"0.5", 0x3FE0000000000000);
+    rate_file(rt, b"br_1.txt", b"9007199254.740992", 0x4200C6F7A0B5ED8D);
+    rate_file(rt, b"br_2.txt", b"9007199254.740993", 0);
+    rate_file(rt, b"br_3.txt", b"0", 0x0000000000000000);
+    rate_file(rt, b"br_4.txt", b"0.000001", 0x3EB0C6F7A0B5ED8D);
 }
 
-fn longer_rates() {
-    rate_file(b"br_5.txt", b"50000000", 0x4187D78400000000);
-    rate_file(b"br_6.txt", b"1234567890", 0x41D26580B4800000);
-    rate_file(b"br_7.txt", b"12345678901", 0);
-    rate_file(b"br_8.txt", b"0.123456", 0x3FBF9ACFFA7EB6BF);
-    rate_file(b"br_9.txt", b"0.1234567", 0);
+fn longer_rates(rt: &HostRuntime) {
+    rate_file(rt, b"br_5.txt", b"50000000", 0x4187D78400000000);
+    rate_file(rt, b"br_6.txt", b"1234567890", 0x41D26580B4800000);
+    rate_file(rt, b"br_7.txt", b"12345678901", 0);
+    rate_file(rt, b"br_8.txt", b"0.123456", 0x3FBF9ACFFA7EB6BF);
+    rate_file(rt, b"br_9.txt", b"0.1234567", 0);
 }
 
 // A map of which the last bytes lack, and one of which the header does; a stream that is cut inside a packet, to check and seek.
-fn cut_streams() {
-    list_file(b"map_30.gxf");
-    list_file(b"map_15.gxf");
-    stream_file(b"cut.gxf");
+fn cut_streams(rt: &HostRuntime) {
+    list_file(rt, b"map_30.gxf");
+    list_file(rt, b"map_15.gxf");
+    stream_file(rt, b"cut.gxf");
 }
 
 // What a multiplexer made.
-fn streams() {
-    stream_file(b"pal_one_frame.gxf");
-    stream_file(b"pal_mpeg2.gxf");
-    stream_file(b"ntsc_mpeg2.gxf");
-    stream_file(b"pal_mpeg1.gxf");
-    stream_file(b"ntsc_mpeg1.gxf");
+fn streams(rt: &HostRuntime) {
+    stream_file(rt, b"pal_one_frame.gxf");
+    stream_file(rt, b"pal_mpeg2.gxf");
+    stream_file(rt, b"ntsc_mpeg2.gxf");
+    stream_file(rt, b"pal_mpeg1.gxf");
+    stream_file(rt, b"ntsc_mpeg1.gxf");
 }
 
-fn more_streams() {
-    stream_file(b"pal_timecode.gxf");
-    stream_file(b"pal_mjpeg.gxf");
-    stream_file(b"pal_120.gxf");
-    stream_file(b"pal_longer.gxf");
+fn more_streams(rt: &HostRuntime) {
+    stream_file(rt, b"pal_timecode.gxf");
+    stream_file(rt, b"pal_mjpeg.gxf");
+    stream_file(rt, b"pal_120.gxf");
+    stream_file(rt, b"pal_longer.gxf");
 }
 
-fn main() {
-    check_file(b"without_map_99.gxf");
-    check_file(b"without_map_100.gxf");
-    cut_streams();
-    rates();
-    longer_rates();
-    streams();
-    more_streams();
+fn main(rt: HostRuntime) {
+    check_file(&rt, b"without_map_99.gxf");
+    check_file(&rt, b"without_map_100.gxf");
+    cut_streams(&rt);
+    rates(&rt);
+    longer_rates(&rt);
+    streams(&rt);
+    more_streams(&rt);
 }
