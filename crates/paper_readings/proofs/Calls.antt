@@ -16,7 +16,7 @@ use Rattle.map_writer.specs.Write.{map_written_answer, map_written_in}
 use Rattle.locator_writer.specs.Write.{locator_answer, locator_written_in}
 use Rattle.map_name.specs.Name.{name_at, name_bytes, place_in, name_of_two_at, two_bytes, place_of_two}
 use Rattle.paper_readings.specs.Calls.{Headers, OfType, Walks, ReadsMap, ReadsTrack, BuildsInto, WritesMap, WritesLocator, HandsOut, HandsOutOfTwo}
-use Rattle.paper_readings.proofs.Given.{lent}
+use Rattle.paper_readings.proofs.Given.{lent, lent_out}
 
 pub header_is : (s : List ℕ) (at : ℕ) (x : PacketAnswer) → Headers s at x → x ≡ header_at s at
 header_is s at x g = sym g.it ∙ g.post ∙ rw (g.on.0, g.on.1)
@@ -80,15 +80,15 @@ track_gives s at k = record { lifetimes = ([], tt); arguments = (lent s, (at, (k
 
 pub built_gives : (l s : List ℕ) → BuildsInto l s (build_answer l s) (built_in l s)
 built_gives l s =
-    record { lifetimes = ([], ([], tt)); arguments = (lent l, (lent s, tt)); result = build_answer l s; exit = (lent (built_in l s), (lent s, tt)); on = (refl, refl); post = (refl, refl); it = refl }
+    record { lifetimes = ([], ([], tt)); arguments = (lent_out l, (lent s, tt)); result = build_answer l s; exit = (lent_out (built_in l s), (lent s, tt)); on = (refl, refl); post = (refl, refl); it = refl }
 
 pub map_written_gives : (out : List ℕ) (at : ℕ) (text ms ts : List ℕ) → WritesMap out at text ms ts (map_written_answer out at text ms ts) (map_written_in out at text ms ts)
 map_written_gives out at text ms ts =
     record {
       lifetimes = ([], ([], ([], ([], tt))));
-      arguments = (lent out, (at, (lent text, (lent ms, (lent ts, tt)))));
+      arguments = (lent_out out, (at, (lent text, (lent ms, (lent ts, tt)))));
       result = map_written_answer out at text ms ts;
-      exit = (lent (map_written_in out at text ms ts), (at, (lent text, (lent ms, (lent ts, tt)))));
+      exit = (lent_out (map_written_in out at text ms ts), (at, (lent text, (lent ms, (lent ts, tt)))));
       on = (refl, refl, refl, refl, refl);
       post = (refl, refl);
       it = refl;
@@ -98,9 +98,9 @@ pub locator_written_gives : (out : List ℕ) (at step : ℕ) (ns : List ℕ) →
 locator_written_gives out at step ns =
     record {
       lifetimes = ([], ([], tt));
-      arguments = (lent out, (at, (step, (lent ns, tt))));
+      arguments = (lent_out out, (at, (step, (lent ns, tt))));
       result = locator_answer out at step ns;
-      exit = (lent (locator_written_in out at step ns), (at, (step, (lent ns, tt))));
+      exit = (lent_out (locator_written_in out at step ns), (at, (step, (lent ns, tt))));
       on = (refl, refl, refl, refl);
       post = (refl, refl);
       it = refl;

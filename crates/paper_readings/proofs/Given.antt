@@ -5,6 +5,7 @@ use mathlib.Core.Path.{◌≡◌, refl, sym, ◌∙◌, ap}
 use mathlib.Core.List.{List, [], ◌∷◌}
 use native.Mathlib.Omega.{arith}
 use denote.Ref.{Bor}
+use denote.MutBor.{MutBor}
 use Rattle.plate.specs.Plate.{refusal}
 use Rattle.plate.specs.declared.Refusal.{Refusal}
 use Rattle.stream.specs.Stream as stream
@@ -48,6 +49,10 @@ use Rattle.paper_readings.specs.Calls.{Allows, Checks, Seeks, Looks, Tables, Pos
 -- bytes as a slice lends them
 abbrev pub lent : List ℕ → Bor (List ℕ)
 lent s = record { ref_ptr = (0, 0); now = s }
+
+-- and as one does that may be written to
+abbrev pub lent_out : List ℕ → MutBor (List ℕ)
+lent_out s = record { ref_ptr = (0, 0); ghost_name = 0; now = s }
 
 abbrev first_byte : List ℕ → ℕ
 first_byte [] = 0
@@ -130,7 +135,7 @@ build_is l s x g = sym g.it ∙ g.post.0 ∙ rw (g.on.0, g.on.1)
 
 pub build_gives : (l s : List ℕ) → Builds l s (builder.build_answer l s)
 build_gives l s =
-    record { lifetimes = ([], ([], tt)); arguments = (lent l, (lent s, tt)); result = builder.build_answer l s; exit = (lent (builder.built_in l s), (lent s, tt)); on = (refl, refl); post = (refl, refl); it = refl }
+    record { lifetimes = ([], ([], tt)); arguments = (lent_out l, (lent s, tt)); result = builder.build_answer l s; exit = (lent_out (builder.built_in l s), (lent s, tt)); on = (refl, refl); post = (refl, refl); it = refl }
 
 pub no_refusing_build : (r : Refusal) → Builds (room 33) S (build.Refused r) → ⊥
 no_refusing_build r g = let e = build_is (room 33) S (build.Refused r) g ∙ computed.two in let z : ◌≡◌ {A = ℕ} 0 1 = cc in omega arith
@@ -147,7 +152,7 @@ left_is l s o g = sym g.it ∙ g.post.1 ∙ rw (g.on.0, g.on.1)
 
 pub left_gives : (l s : List ℕ) → LeavesBuilt l s (builder.built_in l s)
 left_gives l s =
-    record { lifetimes = ([], ([], tt)); arguments = (lent l, (lent s, tt)); result = builder.build_answer l s; exit = (lent (builder.built_in l s), (lent s, tt)); on = (refl, refl); post = (refl, refl); it = refl }
+    record { lifetimes = ([], ([], tt)); arguments = (lent_out l, (lent s, tt)); result = builder.build_answer l s; exit = (lent_out (builder.built_in l s), (lent s, tt)); on = (refl, refl); post = (refl, refl); it = refl }
 
 pub no_idle_build : LeavesBuilt (room 33) S (room 33) → ⊥
 no_idle_build g = let e = ap first_byte (left_is (room 33) S (room 33) g ∙ computed.written) in omega arith
