@@ -22,8 +22,8 @@ mkdir -p "$out"
 "${prefix}gcc" -std=gnu99 -O2 -Wall -Wextra -c "$top/bench/versions.c" -o "$out/versions-gcc.o" || exit 2
 "$clang" --target=x86_64-unknown-linux-gnu -std=gnu99 -O3 -Wall -Wextra -c "$top/bench/versions.c" -o "$out/versions-clang.o" || exit 2
 for cc in gcc clang; do
-    "${prefix}gcc" -std=gnu99 -O2 -Wall -Wextra -static "$top/bench/count.c" "$out/versions-$cc.o" "$top/target/staticlib/libcount_stream.a" "$top/target/staticlib/libcount_book.a" \
-        "$top/target/staticlib/libcount_map.a" "$top/target/lib/liblumperki.a" -o "$out/count-$cc" || exit 2
+    "${prefix}gcc" -std=gnu99 -O2 -Wall -Wextra -static "$top/bench/count.c" "$out/versions-$cc.o" "$top/crates/count_stream/out/libcount_stream.a" "$top/crates/count_book/out/libcount_book.a" \
+        "$top/crates/count_map/out/libcount_map.a" "$top/target/lib/liblumperki.a" -o "$out/count-$cc" || exit 2
 done
 if [ "$counter" != valgrind ]; then
     # the first version of its plugin interface that this qemu takes; that of Debian 12 takes 1

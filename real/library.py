@@ -102,10 +102,10 @@ def map_of(tokens):
 
 
 class Library:
-    def __init__(self, top, loader, emulator):
+    def __init__(self, top):
         self.gxf = [os.path.join(top, "gxf")]
-        self.probe = [*emulator, os.path.join(loader, "ld-linux-x86-64.so.2"), "--library-path", loader, os.path.join(top, "target/bin/probe")]
-        self.control = [*emulator, os.path.join(top, "target/c/control")]
+        self.probe = [os.path.join(top, "target/bin/probe")]
+        self.control = [os.path.join(top, "target/c/control")]
         self.torn = []       # every 5 that was given, and the bytes that lack by the header at its place
 
     def held(self, answer, data):

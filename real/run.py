@@ -115,8 +115,8 @@ def summary(tolds, found, damaged, torn, kinds):
     return len(unexplained) + otherwise + wrong
 
 
-def main(top, loader, *emulator):
-    library = Library(top, loader, list(emulator))
+def main(top):
+    library = Library(top)
     folder = os.path.join(top, "target/real")
     os.makedirs(folder, exist_ok=True)
     kinds = explained(top)
