@@ -6,7 +6,6 @@ use Rattle.stream.specs.declared.SeekAnswer.{SeekAnswer}
 use Rattle.stream.specs.declared.SeekAnswer.TheVariants as seek
 use Rattle.book.specs.declared.LookupAnswer.{LookupAnswer}
 use Rattle.book.specs.declared.LookupAnswer.TheVariants as lookup
-use Rattle.agreement.specs.declared.Agreement.TheVariants.{Refused}
 
 -- for the code alone: two refusals, and two answers, are one
 unfoldable pub like_refusal : Refusal → Refusal → Bool

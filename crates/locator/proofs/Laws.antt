@@ -9,11 +9,10 @@ use lib.ListN.{length}
 use lib.Dec.{ltb, eqb}
 use Rattle.plate.specs.Choice.{pick}
 use Rattle.number.specs.Number.{le}
-use Rattle.packet.specs.declared.PacketAnswer.TheVariants.{Refused as NoPacket}
 use Rattle.locator.specs.Locator.{table_of, no_table}
 use Rattle.locator.specs.declared.Locator.{Locator}
 use Rattle.locator.specs.declared.LocatorAnswer.{LocatorAnswer}
-use Rattle.locator.specs.declared.LocatorAnswer.TheVariants.{Table, Refused as NoTable}
+use Rattle.locator.specs.declared.LocatorAnswer.TheVariants.{Table}
 
 pub record Good (p : List ℕ) (t : Locator) : Type 0 where
   pub steps : 0 < t.step

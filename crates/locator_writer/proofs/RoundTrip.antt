@@ -12,7 +12,7 @@ use Rattle.packet.specs.declared.PacketAnswer.TheVariants.{Whole}
 use Rattle.packet_writer.specs.Write.{over}
 use Rattle.packet_writer.proofs.Laws.{framed, header_stands}
 use Rattle.locator.specs.Locator.{table_at, position_at}
-use Rattle.locator.specs.declared.PositionAnswer.TheVariants.{At, Refused as NoPosition}
+use Rattle.locator.specs.declared.PositionAnswer.TheVariants.{At}
 use Rattle.locator_writer.specs.Write.{length_of, locator_packet, may_write, locator_answer, locator_written_in}
 use Rattle.locator_writer.specs.ReadBack.{ReadBack}
 use Rattle.packet_writer.specs.declared.WriteAnswer.TheVariants.{Length, Refused}

@@ -36,7 +36,7 @@ use Rattle.map.proofs.Encoded.{Fit, header_of_encoded}
 use Rattle.map.proofs.Parts.{material_bytes, tracks_bytes_lem, parts_fit, parts_good, good_encoded}
 use Rattle.map.proofs.ViewOfParts.{same_value, length-map}
 use Rattle.map_newer.specs.Strike.{kept, material_stays, struck_track, struck, Boundary, in_material, in_track, set_at, set_in_track, set_in_parts}
-use Rattle.map_newer.specs.Demand.{Bytes, Accepted, section_at, Room, There}
+use Rattle.map_newer.specs.Demand.{Accepted, section_at, Room, There}
 use Rattle.map_newer.proofs.Items.{kept_again, kept_set, kept_good, set_good, kept_size, set_size, kept_bytes, set_bytes, kept_held}
 use Rattle.map_newer.proofs.Tracks.{struck_tracks_good, set_tracks_good, struck_tracks_said, struck_listed, struck_twice, struck_set_tracks, struck_tracks_size, set_tracks_size, struck_tracks_bytes, set_tracks_bytes}
 

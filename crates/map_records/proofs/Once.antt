@@ -1,4 +1,4 @@
--- Any two outcomes that the contract of `fill` allows are equal: the answer and all records. It is proved by hand; its contract is one definition, and the theorem is over that name.
+-- Any two outcomes that the contract of `fill` allows are equal: the answer and all records. Its contract is one definition, and the theorem is over that name.
 use Prim.Native.Nat.{ℕ}
 use mathlib.Core.Path.{◌≡◌, sym, ◌∙◌}
 use mathlib.Core.List.{List}

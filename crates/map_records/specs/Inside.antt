@@ -1,5 +1,5 @@
 -- What serves the code alone: a record in which nothing is present, and how many records an answer stands for.
-use Rattle.std.specs.Prelude.{ℕ, map as each}
+use Rattle.std.specs.Prelude.{ℕ}
 use Rattle.map_items.specs.declared.Part.TheVariants as item
 use Rattle.map_aspect.specs.declared.Aspect.TheVariants as aspect
 use Rattle.map_answer.specs.declared.Track.{Track}

@@ -11,7 +11,7 @@ use Rattle.number.proofs.Stores.{sets_append}
 use Rattle.map_items.specs.Items.{items_bytes}
 use Rattle.map_tracks.specs.Tracks as tracks
 use Rattle.map.specs.Encode.{described}
-use Rattle.map_given.specs.Given.{slots, Given, track_at, tracks_from}
+use Rattle.map_given.specs.Given.{Given, track_at, tracks_from}
 use Rattle.map_writer.specs.Inside.{slots_size, tracks_size, tracks_bytes}
 use Rattle.map_given.specs.Faults.{slots_fault, own_fault, tracks_fault}
 use Rattle.map_writer.specs.Write.{items_of}

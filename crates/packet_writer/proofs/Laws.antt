@@ -17,7 +17,7 @@ use Rattle.packet.specs.declared.Packet.{Packet}
 use Rattle.packet.specs.declared.PacketAnswer.TheVariants.{Whole}
 use Rattle.packet.proofs.Edge.{anywhere}
 use Rattle.packet.proofs.Laws.{accepts, whole}
-use Rattle.packet_writer.specs.Write.{header_of, over, buffer_after}
+use Rattle.packet_writer.specs.Write.{header_of, over}
 
 pub length-header : (packet_type len : ℕ) → length (header_of packet_type len) ≡ 16
 unfolding header_of be_bytes

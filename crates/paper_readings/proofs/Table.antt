@@ -1,6 +1,5 @@
 -- The bench readings give what the paper says, computed by the checker.
 use mathlib.Core.Path.{◌≡◌, refl, ◌∙◌, ap}
-use mathlib.Core.List.{map as each}
 use lib.Ieee as Ieee
 use contract.Lifetimes.{Lfts}
 use borrow.Fn.Kinds.{ended_of, Dens}

@@ -1,6 +1,5 @@
 -- Cases of order in a map and in auxiliary text, each with the refusal that 01's walk gives, and all 64 IDs, once and with one of them again. Proved in proofs/Cases.antt.
 use Rattle.std.specs.Prelude.{ℕ, zero, suc, ◌+◌, ◌-◌, List, [], ◌∷◌, ◌++◌, length, replicate}
-use Rattle.number.specs.Number.{be}
 use Rattle.plate.specs.Plate.{refusal}
 use Rattle.map_answer.specs.declared.Value.TheVariants as value
 use Rattle.map.specs.Map as map

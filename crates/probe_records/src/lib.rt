@@ -1,5 +1,5 @@
 // A caller of `map_records::fill`: it lends a part of a local array of records, and hands the array back by value with the answer.
-// `lend` makes a reference to structs, so it is proved by hand, and thin. Callers of `fill` need no proof by hand.
+// `lend` makes the reference to structs, and is thin. Callers of `fill` pass records by value.
 #![tactic(auto)]
 
 ghost use Rattle.std.specs.Prelude.{◌≡◌, ◌≤◌, replicate};

@@ -1,5 +1,5 @@
 -- What a name is, byte by byte (RDD 14, Table 19 and the STRING of Table 1): so that `name_from`, which walks, need not be believed.
-use Rattle.std.specs.Prelude.{ℕ, ◌+◌, ◌<◌, ◌≤◌, ◌≡◌, List, length, get_or}
+use Rattle.std.specs.Prelude.{ℕ, ◌<◌, ◌≤◌, ◌≡◌, List, length, get_or}
 use Rattle.map_items.specs.declared.Part.TheVariants.{At, Absent}
 use Rattle.segment.specs.Segment.{name_from}
 

@@ -1,18 +1,18 @@
 -- A name that is there lies within the lent bytes.
 use Prim.Native.Nat.{ℕ, ◌+◌, ◌≤◌, ◌<◌}
-use mathlib.Core.Path.{◌≡◌, refl, sym, ◌∙◌, ap}
+use mathlib.Core.Path.{◌≡◌, refl, ap}
 use mathlib.Core.List.{List}
 use native.Mathlib.Omega.{arith}
 use lib.ListN.{length, take, drop, length-drop}
 use lib.Seq.{length-take-le}
-use Rattle.map_items.specs.Find.{Found, missing, found}
+use Rattle.map_items.specs.Find.{missing, found}
 use Rattle.map_items.specs.declared.Part.{Part}
 use Rattle.map_items.specs.declared.Part.TheVariants as part
 use Rattle.umf.specs.Split.{least_of}
 use Rattle.umf.specs.Umf.{Asked, refused, answered, asked_at, place_of}
 use Rattle.umf.specs.declared.Described.TheVariants.{Segments}
 use Rattle.umf.proofs.Stands.{stands}
-use Rattle.segment.specs.Segment.{name_of, name_from, segment_of, segment_in, segment_at}
+use Rattle.segment.specs.Segment.{name_of, segment_of, segment_in, segment_at}
 use Rattle.segment.proofs.Names.{name_says}
 use Rattle.source_name.specs.SourceName.{of_part, name_in, name_at}
 use Rattle.source_name.specs.declared.SourceNameAnswer.TheVariants as name

@@ -31,7 +31,7 @@ use Rattle.piece.specs.declared.PieceAnswer.TheVariants as piece
 use Rattle.piece.proofs.Laws.{told}
 use Rattle.piece.proofs.Fields.{field_fits}
 use Rattle.piece.proofs.Maps.{map_accepted}
-use Rattle.stream.specs.Stream.{Placed, Packets, closed, runs_out, types_after, on_piece, packets_from, packets, check_of, carries_as, carries, first_of, seek_of}
+use Rattle.stream.specs.Stream.{Placed, closed, runs_out, types_after, on_piece, packets_from, packets, check_of, carries_as, carries, first_of, seek_of}
 use Rattle.stream.specs.Sought.{None}
 use Rattle.stream.specs.OddFields.{Media, Progressive, Carries, states, first_stated, seek_stated, NotProgressive, NoMap, Latest, bytes_of, NeverOne, AnswersBy, OddFields}
 use Rattle.stream.specs.declared.Spot.TheVariants as spot

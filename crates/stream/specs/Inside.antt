@@ -8,7 +8,7 @@ use Rattle.stream.specs.declared.CheckAnswer.{CheckAnswer}
 use Rattle.stream.specs.declared.CheckAnswer.TheVariants as check
 use Rattle.stream.specs.declared.Run.{Run}
 use Rattle.stream.specs.declared.Run.TheVariants as run
-use Rattle.stream.specs.Stream.{Packets, packets, check_of, carries_piece, first_of}
+use Rattle.stream.specs.Stream.{packets, check_of, carries_piece, first_of}
 
 -- what one pass collects: the check's answer, and with it the first carrier
 abbrev pub or_first : Spot → Spot → Spot

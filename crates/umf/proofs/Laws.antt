@@ -2,12 +2,12 @@
 use Prim.Native.Nat.{ℕ, zero, suc, ◌+◌, ◌-◌, ◌<◌, ◌≤◌}
 use mathlib.Core.Path.{◌≡◌, refl, sym, ◌∙◌, ap}
 use mathlib.Core.Bool.{Bool, true, false}
-use mathlib.Core.List.{List, [], ◌∷◌}
+use mathlib.Core.List.{List}
 use native.Mathlib.Omega.{arith}
 use native.Mathlib.Nat.{add-zero, add_assoc, add-sub_cancel_left}
 use lib.ListN.{length, get_or, take, drop, length-drop}
 use lib.Seq.{length-take-le, drop-drop}
-use lib.Dec.{ltb, eqb}
+use lib.Dec.{ltb}
 use borrow.Author.Tests.{lt-ltb, le-ltb, eq-eqb, ne_eqb, ltb-false}
 use Rattle.plate.specs.Choice.{pick}
 use Rattle.plate.specs.Plate.{refusal}
@@ -19,7 +19,7 @@ use Rattle.map_items.specs.declared.Verdict.{Verdict}
 use Rattle.map_items.specs.declared.Verdict.TheVariants.{Accepted, Refused}
 use Rattle.umf.specs.Split.{step_of, walk, split_of, size_of}
 use Rattle.umf.specs.Inside.{walked_of}
-use Rattle.umf.specs.Umf.{length_of, payload_of, is_opened, section_at, section_size, parts_of, bad30, section_verdict, sections_verdict, payload_verdict, umf_verdict, nth_from, answered, place_of}
+use Rattle.umf.specs.Umf.{length_of, payload_of, is_opened, section_at, section_size, parts_of, bad30, section_verdict, payload_verdict, umf_verdict, nth_from, answered, place_of}
 use Rattle.umf.specs.declared.PlaceAnswer.TheVariants as place
 use Rattle.umf.specs.declared.Described.{Described}
 use Rattle.umf.specs.declared.Described.TheVariants.{Tracks, Segments, Users}

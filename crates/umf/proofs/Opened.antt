@@ -1,8 +1,8 @@
 -- What an accepted UMF has in its place, and that who has it is accepted.
-use Prim.Native.Nat.{ℕ, ◌+◌, ◌-◌, ◌<◌, ◌≤◌}
+use Prim.Native.Nat.{ℕ, ◌+◌, ◌-◌, ◌≤◌}
 use mathlib.Core.Path.{◌≡◌, refl, sym, ◌∙◌, ap}
-use mathlib.Core.Bool.{Bool, true, false}
-use mathlib.Core.List.{List, [], ◌∷◌, ◌++◌, append-nil}
+use mathlib.Core.Bool.{true, false}
+use mathlib.Core.List.{List}
 use native.Mathlib.Omega.{arith}
 use lib.ListN.{length, take, drop, length-drop, length-append}
 use lib.Seq.{length-take-le, drop-length}
@@ -11,7 +11,7 @@ use Rattle.map_items.specs.Find.{missing, found}
 use Rattle.map_items.specs.declared.Verdict.TheVariants.{Accepted}
 use Rattle.umf.specs.Split.{least_of, is_counted, Parts, split_of, size_of}
 use Rattle.umf.specs.Umf.{flag_of, length_of, payload_of, section_at, section_size, section_of, count_of, parts_of, section_verdict, payload_verdict, umf_verdict, nth_in}
-use Rattle.umf.specs.Laws.{AllWhole, join, Laid, Opened, UmfLaws}
+use Rattle.umf.specs.Laws.{join, Laid, Opened, UmfLaws}
 use Rattle.umf.specs.declared.Described.{Described}
 use Rattle.umf.specs.declared.Described.TheVariants.{Tracks, Segments, Users}
 use Rattle.umf.proofs.Split.{split_says, put_together, put, few_whole}

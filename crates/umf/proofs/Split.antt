@@ -1,14 +1,13 @@
 -- A section taken apart and put together again.
-use Prim.Native.Nat.{ℕ, zero, suc, ◌+◌, ◌-◌, ◌*◌, ◌<◌, ◌≤◌}
+use Prim.Native.Nat.{ℕ, zero, suc, ◌+◌, ◌<◌, ◌≤◌}
 use mathlib.Core.Path.{◌≡◌, refl, sym, ◌∙◌, ap}
 use mathlib.Core.Bool.{Bool, true, false}
 use mathlib.Core.List.{List, [], ◌∷◌, ◌++◌, append_assoc, append-nil}
 use native.Mathlib.Omega.{arith}
-use native.Mathlib.Nat.{add-zero}
 use lib.ListN.{length, get_or, take, drop, length-append, length-drop, take-append-drop}
 use lib.Seq.{length-take-le, drop-drop, take-append_seam, drop-append_seam}
-use lib.Dec.{leb, eqb}
-use borrow.Author.Tests.{le-leb, ne_eqb, leb-true, eqb-true}
+use lib.Dec.{eqb}
+use borrow.Author.Tests.{le-leb, ne_eqb, eqb-true}
 use Rattle.plate.specs.Choice.{pick, within}
 use Rattle.number.specs.Number.{le}
 use Rattle.map_items.proofs.Anywhere.{never}

@@ -1,5 +1,5 @@
 -- What is there by its number stands in the lent bytes, where it is said to.
-use Prim.Native.Nat.{ℕ, zero, suc, ◌+◌, ◌-◌, ◌<◌, ◌≤◌}
+use Prim.Native.Nat.{ℕ, zero, suc, ◌+◌, ◌-◌, ◌≤◌}
 use mathlib.Core.Path.{◌≡◌, refl, sym, ◌∙◌, ap}
 use mathlib.Core.Bool.{Bool, true, false}
 use mathlib.Core.List.{List, [], ◌∷◌}
@@ -19,8 +19,8 @@ use Rattle.packet.proofs.Laws.{whole, typed}
 use Rattle.map_items.specs.Find.{Found, missing, found}
 use Rattle.map_items.specs.declared.Verdict.{Verdict}
 use Rattle.map_items.specs.declared.Verdict.TheVariants as verdict
-use Rattle.umf.specs.Split.{least_of, step_of, walk, split_of, size_of}
-use Rattle.umf.specs.Umf.{flag_of, length_of, payload_of, is_opened, section_at, section_size, section_of, count_of, parts_of, umf_verdict, nth_from, nth_of, nth_in, Asked, refused, answered, if_accepted, if_whole, asked_at, place_of}
+use Rattle.umf.specs.Split.{least_of, step_of, split_of, size_of}
+use Rattle.umf.specs.Umf.{length_of, payload_of, is_opened, section_at, section_size, section_of, count_of, parts_of, umf_verdict, nth_from, nth_of, nth_in, Asked, refused, answered, if_accepted, if_whole, asked_at, place_of}
 use Rattle.umf.specs.declared.Described.{Described}
 use Rattle.umf.specs.declared.Step.{Step}
 use Rattle.umf.specs.declared.Step.TheVariants.{More, Used, Over}

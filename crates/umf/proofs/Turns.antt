@@ -1,19 +1,18 @@
 -- A section walked, a turn at a time, and what a step tells.
-use Prim.Native.Nat.{ℕ, zero, suc, ◌+◌, ◌-◌, ◌<◌, ◌≤◌}
-use mathlib.Core.Path.{◌≡◌, refl, sym, ◌∙◌, ap}
+use Prim.Native.Nat.{ℕ, suc, ◌+◌, ◌-◌, ◌<◌, ◌≤◌}
+use mathlib.Core.Path.{◌≡◌, refl, sym, ◌∙◌}
 use mathlib.Core.Bool.{Bool, true, false}
-use mathlib.Core.List.{List, [], ◌∷◌}
+use mathlib.Core.List.{List}
 use native.Mathlib.Omega.{arith}
 use native.Mathlib.Nat.{add-zero, zero-add}
 use lib.ListN.{length, take, drop, length-drop}
 use lib.Seq.{length-take-le, drop-drop, take_all}
 use lib.Dec.{leb, eqb}
-use borrow.Author.Tests.{le-leb, lt-leb, leb-true}
+use borrow.Author.Tests.{lt-leb, leb-true}
 use Rattle.plate.specs.Choice.{pick, within}
-use Rattle.umf.specs.Split.{least_of, stated_of, is_counted, step_of, Parts, walk, split_of, size_of}
+use Rattle.umf.specs.Split.{least_of, stated_of, is_counted, step_of, walk, split_of, size_of}
 use Rattle.umf.specs.Inside.{walked_of}
 use Rattle.umf.specs.declared.Described.{Described}
-use Rattle.umf.specs.declared.Step.{Step}
 use Rattle.umf.specs.declared.Step.TheVariants.{More, Used, Over}
 use Rattle.umf.specs.declared.Walked.{Walked}
 

@@ -1,5 +1,5 @@
 -- What serves the code alone: a walk of a section, in numbers.
-use Rattle.std.specs.Prelude.{List, length}
+use Rattle.std.specs.Prelude.{length}
 use Rattle.umf.specs.Split.{Parts, size_of}
 use Rattle.umf.specs.declared.Walked.{Walked}
 

@@ -1,9 +1,9 @@
 -- What taking a section apart tells, and the other way (RDD 14, 7.3.2.4 to 7.3.2.6; 02, §1): so that `walk`, which goes step by step, need not be believed.
-use Rattle.std.specs.Prelude.{ℕ, ◌+◌, ◌<◌, ◌≤◌, ◌≡◌, true, false, List, [], ◌∷◌, ◌++◌, length, get_or, take, drop}
+use Rattle.std.specs.Prelude.{ℕ, ◌+◌, ◌<◌, ◌≤◌, ◌≡◌, true, false, List, [], ◌∷◌, ◌++◌, length, take, drop}
 use Rattle.map_items.specs.Find.{missing, found}
 use Rattle.map_items.specs.declared.Verdict.TheVariants.{Accepted}
 use Rattle.umf.specs.Split.{least_of, stated_of, is_counted, Parts, split_of, size_of}
-use Rattle.umf.specs.Umf.{flag_of, length_of, payload_of, section_at, section_size, section_of, count_of, parts_of, section_verdict, payload_verdict, umf_verdict, nth_in}
+use Rattle.umf.specs.Umf.{flag_of, length_of, payload_of, section_at, section_size, section_of, count_of, parts_of, section_verdict, umf_verdict, nth_in}
 use Rattle.umf.specs.declared.Described.{Described}
 
 -- a description or record by itself: it states its own length, and has its fixed fields

@@ -1,5 +1,5 @@
 -- The UMF packet (RDD 14, clause 7.3 and Tables 15 and 16; 02, §1): its preamble, and of a whole UMF its payload, judged in the order of 7.3.2, at the first thing that does not fit.
-use Rattle.std.specs.Prelude.{ℕ, zero, suc, ◌+◌, ◌-◌, Bool, List, [], ◌∷◌, length, get_or, take, drop, ltb, eqb}
+use Rattle.std.specs.Prelude.{ℕ, zero, suc, ◌+◌, Bool, List, [], ◌∷◌, length, get_or, take, drop, ltb, eqb}
 use Rattle.plate.specs.Choice.{pick}
 use Rattle.plate.specs.Plate.{refusal}
 use Rattle.plate.specs.declared.Refusal.{Refusal}

@@ -8,18 +8,16 @@ use Rattle.packet.specs.Packet.{packet_at, type_umf}
 use Rattle.packet.specs.declared.PacketAnswer.{PacketAnswer}
 use Rattle.packet.specs.declared.PacketAnswer.TheVariants as packet
 use Rattle.map_items.specs.Judge.{has}
-use Rattle.map_items.specs.Find.{Found, missing, found}
+use Rattle.map_items.specs.Find.{missing, found}
 use Rattle.map_items.specs.declared.Verdict.{Verdict}
 use Rattle.map_items.specs.declared.Verdict.TheVariants as verdict
 use Rattle.map_answer.specs.declared.Value.{Value}
 use Rattle.map_answer.specs.declared.Value.TheVariants as value
 use Rattle.umf.specs.Umf.{flag_of, length_of, payload_of, is_opened, parts_of, umf_verdict, Asked, refused, answered, asked_at}
-use Rattle.umf.specs.declared.Described.{Described}
 use Rattle.umf.specs.declared.Described.TheVariants.{Tracks, Users}
 use Rattle.umf_answer.specs.declared.Preamble.{Preamble}
 use Rattle.umf_answer.specs.declared.Payload.{Payload}
 use Rattle.umf_answer.specs.declared.Material.{Material}
-use Rattle.umf_answer.specs.declared.Umf.{Umf}
 use Rattle.umf_answer.specs.declared.UmfAnswer.{UmfAnswer}
 use Rattle.umf_answer.specs.declared.UmfAnswer.TheVariants as umf
 use Rattle.umf_answer.specs.declared.TrackSays.{TrackSays}

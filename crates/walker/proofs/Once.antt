@@ -1,4 +1,4 @@
--- Any two outcomes that a contract of this crate allows are equal. `make` and `step` are proved by hand; of each the contract is one definition, and the theorem is over that name.
+-- Any two outcomes that a contract of this crate allows are equal. Of `make` and `step` the contract is one definition, and the theorem is over that name.
 use Prim.Native.Nat.{ℕ}
 use mathlib.Core.Path.{◌≡◌, sym, ◌∙◌}
 use mathlib.Core.List.{List}

@@ -1,5 +1,5 @@
 // The walker: a struct that holds a stream and a place in it. A step reads the packet at the place by the packet reader and moves on.
-// The functions over the struct are proved by hand and thin. `walk` takes a plain slice and numbers: callers of it need no proof by hand.
+// The functions over the struct are thin. `walk` takes a plain slice and numbers.
 #![tactic(auto)]
 
 ghost use Rattle.std.specs.Prelude.{◌≡◌, length};

@@ -1,4 +1,3 @@
-use borrow.Author.Rules.{rules}
 use Rattle.agreement.specs.Inside.{alike}
 use Rattle.agreement.proofs.is_alike.Goals as goal
 

@@ -1,4 +1,3 @@
-use borrow.Author.Rules.{rules}
 use mathlib.Core.Path.{sym, ◌∙◌}
 use Rattle.book.proofs.Laws.{sound_either}
 use Rattle.book.proofs.is_sound.Goals as goal

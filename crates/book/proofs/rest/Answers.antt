@@ -1,11 +1,7 @@
-use borrow.Author.Rules.{rules}
 use native.Mathlib.Omega.{arith}
-use Prim.Native.Nat.{◌*◌, ◌/◌, ◌≤◌, ◌-◌}
-use mathlib.Core.Path.{◌≡◌, refl, sym, ◌∙◌}
-use lib.ListN.{length}
-use Rattle.plate.proofs.Tests.{off, on}
+use Prim.Native.Nat.{◌*◌}
+use mathlib.Core.Path.{refl, sym, ◌∙◌}
 use Rattle.number.proofs.Laws.{le_lt}
-use Rattle.book.specs.Inside.{verdict_from}
 use Rattle.book.proofs.Laws.{on_end, next, is_bad, may_stand}
 use Rattle.book.proofs.rest.Goals as goal
 

@@ -1,10 +1,7 @@
-use borrow.Author.Rules.{rules}
 use native.Mathlib.Omega.{arith}
-use Prim.Native.Nat.{◌≤◌, ◌-◌}
 use mathlib.Core.Path.{ap}
 use Rattle.piece.specs.declared.Piece.{Piece}
-use lib.ListN.{length}
-use Rattle.book_builder.proofs.Laws.{Counting, count_begin, count_out, count_next, can_see, is_told, one_here}
+use Rattle.book_builder.proofs.Laws.{count_begin, count_out, count_next, can_see, is_told, one_here}
 use Rattle.book_builder.proofs.count.Goals as goal
 
 pub loop-at-init : goal.loop-at-init

@@ -1,4 +1,3 @@
-use borrow.Author.Rules.{rules}
 use borrow.Author.Tests.{eq-eqb, ne_eqb}
 use Rattle.book_builder.specs.BookBuilder.{recorded}
 use Rattle.book_builder.proofs.is_recorded.Goals as goal

@@ -2,13 +2,11 @@ use borrow.Author.Rules.{rules}
 use native.Mathlib.Omega.{arith}
 use borrow.Author.Tests.{eq-eqb, ne_eqb}
 use native.Mathlib.Nat.{add-sub_cancel_left}
-use Prim.Native.Nat.{◌≤◌, ◌-◌}
 use mathlib.Core.Path.{◌≡◌, ◌∙◌, ap}
-use lib.ListN.{length}
 use Rattle.map_tracks.specs.declared.Types.{Types}
 use Rattle.piece.specs.declared.Piece.{Piece}
 use Rattle.stream.specs.Stream.{types_after}
-use Rattle.book_builder.proofs.Laws.{Writing, write_begin, write_out, write_room, write_next, can_see, is_told}
+use Rattle.book_builder.proofs.Laws.{write_begin, write_out, write_room, write_next, can_see, is_told}
 use Rattle.book_builder.proofs.write.Goals as goal
 use Rattle.book_builder.proofs.write.Goals.{then-packet_type, else-packet_type}
 
@@ -33,8 +31,10 @@ pub put_records-to-requires : goal.put_records-to-requires
 put_records-to-requires c = let l = c.loop-at in
     let e = c.seen_at-x.ensures in
     let t : c.if-packet_type.types.media_types ≡ types_after c.args.s.now l.at c.seen_at-x.result l.types.media_types =
-    elim c.if-packet_type.branch [ then-packet_type w ↦ rw (eq-eqb _ _ w.if-packet_type.true) (ap (λ (k : Types). k.media_types) w.types-is ∙ rw add-sub_cancel_left at w.types_of-types.ensures)
-    | else-packet_type w ↦ rw (ne_eqb _ _ w.if-packet_type.false) (ap (λ (k : Types). k.media_types) w.types-is) ] in
+    elim c.if-packet_type.branch [
+      | then-packet_type w ↦ rw (eq-eqb _ _ w.if-packet_type.true) (ap (λ (k : Types). k.media_types) w.types-is ∙ rw add-sub_cancel_left at w.types_of-types.ensures)
+      | else-packet_type w ↦ rw (ne_eqb _ _ w.if-packet_type.false) (ap (λ (k : Types). k.media_types) w.types-is)
+    ] in
     let w = write_room _ _ _ _ _ _ l.invariant.2 c.loop-at-test.true c.if-packet_type.types.media_types (rw e at t) in
     rw (c.wide-k.ensures, e) (omega (arith, w, l.invariant.1, c.requires.1))
 
@@ -48,8 +48,10 @@ loop-at-preserved c = let l = c.loop-at in
     let e = c.seen_at-x.ensures in
     let m = ap (λ (y : Piece). y.len) e in
     let t : c.if-packet_type.types.media_types ≡ types_after c.args.s.now l.at c.seen_at-x.result l.types.media_types =
-    elim c.if-packet_type.branch [ then-packet_type w ↦ rw (eq-eqb _ _ w.if-packet_type.true) (ap (λ (k : Types). k.media_types) w.types-is ∙ rw add-sub_cancel_left at w.types_of-types.ensures)
-    | else-packet_type w ↦ rw (ne_eqb _ _ w.if-packet_type.false) (ap (λ (k : Types). k.media_types) w.types-is) ] in (
+    elim c.if-packet_type.branch [
+      | then-packet_type w ↦ rw (eq-eqb _ _ w.if-packet_type.true) (ap (λ (k : Types). k.media_types) w.types-is ∙ rw add-sub_cancel_left at w.types_of-types.ensures)
+      | else-packet_type w ↦ rw (ne_eqb _ _ w.if-packet_type.false) (ap (λ (k : Types). k.media_types) w.types-is)
+    ] in (
       omega (arith, w.cut.within, m),
       c.put_records-to.auto.out ∙ l.invariant.1,
       rw m (write_next _ l.at l.to _ _ _ l.invariant.2 h c.if-packet_type.types.media_types (rw e at t) _ (rw (c.wide-k.ensures, e) at c.put_records-to.ensures.1) _ (rw (c.wide-k.ensures, e) at c.put_records-to.ensures.0)),

@@ -1,15 +1,7 @@
-use borrow.Author.Rules.{rules}
-use native.Mathlib.Omega.{arith}
-use borrow.Author.Tests.{eq-eqb, ne_eqb}
-use native.Mathlib.Nat.{add-sub_cancel_left}
 use Prim.Native.Nat.{◌≤◌, ◌-◌}
-use mathlib.Core.Path.{◌≡◌, ◌∙◌, ap}
-use mathlib.Core.Logic.{⊎_elim}
+use mathlib.Core.Path.{◌≡◌}
 use lib.ListN.{length}
-use Rattle.map_tracks.specs.declared.Types.{Types}
-use Rattle.piece.specs.declared.Piece.{Piece}
-use Rattle.stream.specs.Stream.{types_after}
-use Rattle.book_builder.proofs.Laws.{Writing, write_begin, write_out, write_room, write_next, can_see, is_told}
+use Rattle.book_builder.proofs.Laws.{Writing}
 use Rattle.book_builder.proofs.write.Given as goal
 
 abbrev pub invariant-loop-at : goal.invariant-loop-at

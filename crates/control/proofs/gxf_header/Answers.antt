@@ -1,4 +1,3 @@
-use borrow.Author.Rules.{rules}
 use mathlib.Core.Path.{sym, ◌∙◌}
 use Rattle.control.specs.Control.{header_for_c}
 use Rattle.control.proofs.gxf_header.Goals as goal

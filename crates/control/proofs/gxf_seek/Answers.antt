@@ -1,4 +1,3 @@
-use borrow.Author.Rules.{rules}
 use mathlib.Core.Path.{sym, ◌∙◌}
 use Rattle.control.specs.Control.{seek_for_c}
 use Rattle.control.proofs.gxf_seek.Goals as goal

@@ -1,4 +1,3 @@
-use borrow.Author.Rules.{rules}
 use mathlib.Core.Path.{sym, ◌∙◌}
 use Rattle.count_book.specs.MeasureBook.{build_reading}
 use Rattle.count_book.proofs.gxf_build.Goals as goal

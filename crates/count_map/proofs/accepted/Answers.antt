@@ -1,4 +1,3 @@
-use borrow.Author.Rules.{rules}
 use Rattle.count_map.proofs.accepted.Goals as goal
 
 pub returns : goal.returns

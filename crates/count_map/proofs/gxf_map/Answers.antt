@@ -1,4 +1,3 @@
-use borrow.Author.Rules.{rules}
 use mathlib.Core.Path.{sym, ◌∙◌}
 use Rattle.count_map.specs.MeasureMap.{map_for_c}
 use Rattle.count_map.proofs.gxf_map.Goals as goal

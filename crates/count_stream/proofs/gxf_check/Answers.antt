@@ -1,4 +1,3 @@
-use borrow.Author.Rules.{rules}
 use mathlib.Core.Path.{sym, ◌∙◌}
 use Rattle.count_stream.specs.Measure.{check_reading}
 use Rattle.count_stream.proofs.gxf_check.Goals as goal

@@ -1,4 +1,3 @@
-use borrow.Author.Rules.{rules}
 use mathlib.Core.Path.{sym, ◌∙◌}
 use Rattle.count_stream.specs.Measure.{lookup_reading}
 use Rattle.count_stream.proofs.gxf_lookup.Goals as goal

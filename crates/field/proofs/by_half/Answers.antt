@@ -1,4 +1,3 @@
-use borrow.Author.Rules.{rules}
 use mathlib.Core.Path.{sym, ◌∙◌}
 use Rattle.field.proofs.Laws.{same_half}
 use Rattle.field.proofs.by_half.Goals as goal

@@ -1,4 +1,3 @@
-use borrow.Author.Rules.{rules}
 use mathlib.Core.Path.{sym, ◌∙◌}
 use Rattle.field.specs.Field.{carries_two}
 use Rattle.field.proofs.carries_two.Goals as goal

@@ -1,4 +1,3 @@
-use borrow.Author.Rules.{rules}
 use Rattle.field.specs.Field.{type_with}
 use Rattle.field.proofs.type_with.Goals as goal
 

@@ -1,4 +1,3 @@
-use borrow.Author.Rules.{rules}
 use Rattle.plate.proofs.Tests.{tests}
 use Rattle.locator.specs.Locator.{table_of}
 use Rattle.locator.proofs.table.Goals as goal

@@ -1,4 +1,3 @@
-use borrow.Author.Rules.{rules}
 use Rattle.plate.proofs.Tests.{tests}
 use Rattle.locator_writer.specs.Write.{may_write}
 use Rattle.locator_writer.proofs.may_write.Goals as goal

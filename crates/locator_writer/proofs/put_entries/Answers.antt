@@ -1,9 +1,7 @@
 use borrow.Author.Rules.{rules}
 use native.Mathlib.Omega.{arith}
-use Prim.Native.Nat.{◌≤◌, ◌-◌}
-use mathlib.Core.Path.{◌≡◌, refl, ◌∙◌}
-use lib.ListN.{length, take}
-use lib.Seq.{sets, take_all}
+use mathlib.Core.Path.{refl, ◌∙◌}
+use lib.Seq.{take_all}
 use Rattle.locator_writer.specs.Write.{entry_bytes}
 use Rattle.locator_writer.proofs.Laws.{entry_more}
 use Rattle.locator_writer.proofs.put_entries.Goals as goal

@@ -1,4 +1,3 @@
-use borrow.Author.Rules.{rules}
 use mathlib.Core.Path.{◌∙◌}
 use Rattle.locator_writer.proofs.Laws.{four_runs}
 use Rattle.locator_writer.proofs.put_packet.Goals as goal

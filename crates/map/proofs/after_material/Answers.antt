@@ -1,4 +1,3 @@
-use borrow.Author.Rules.{rules}
 use Rattle.plate.proofs.Tests.{tests}
 use Rattle.map.specs.Map.{after_material}
 use Rattle.map.proofs.after_material.Goals as goal

@@ -1,4 +1,3 @@
-use borrow.Author.Rules.{rules}
 use mathlib.Core.Path.{sym, ◌∙◌}
 use Rattle.map.specs.Map.{answer_of}
 use Rattle.map.proofs.answer_of.Goals as goal

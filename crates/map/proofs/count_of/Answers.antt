@@ -1,4 +1,3 @@
-use borrow.Author.Rules.{rules}
 use mathlib.Core.Path.{◌∙◌}
 use Rattle.map_tracks.proofs.Listed.{count_anywhere}
 use Rattle.map.specs.Map.{listed_in}

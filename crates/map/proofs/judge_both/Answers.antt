@@ -1,4 +1,3 @@
-use borrow.Author.Rules.{rules}
 use mathlib.Core.Path.{sym, ◌∙◌}
 use Rattle.map.specs.Map.{both_verdict}
 use Rattle.map.proofs.judge_both.Goals as goal

@@ -1,4 +1,3 @@
-use borrow.Author.Rules.{rules}
 use mathlib.Core.Path.{sym, ◌∙◌}
 use Rattle.map.specs.Map.{sections_verdict}
 use Rattle.map.proofs.judge_one.Goals as goal

@@ -1,4 +1,3 @@
-use borrow.Author.Rules.{rules}
 use Rattle.plate.proofs.Tests.{tests}
 use Rattle.map.specs.Map.{layout_of}
 use Rattle.map.proofs.layout_of.Goals as goal

@@ -1,4 +1,3 @@
-use borrow.Author.Rules.{rules}
 use mathlib.Core.Path.{◌∙◌}
 use Rattle.map.specs.Map.{material_says}
 use Rattle.map.proofs.material_of.Goals as goal

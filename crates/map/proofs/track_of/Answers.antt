@@ -1,4 +1,3 @@
-use borrow.Author.Rules.{rules}
 use mathlib.Core.Path.{sym, ◌∙◌}
 use Rattle.map.specs.Map.{track_in}
 use Rattle.map.proofs.track_of.Goals as goal

@@ -1,4 +1,3 @@
-use borrow.Author.Rules.{rules}
 use mathlib.Core.Path.{◌∙◌}
 use Rattle.map.specs.Map.{types_in}
 use Rattle.map.proofs.types_of.Goals as goal

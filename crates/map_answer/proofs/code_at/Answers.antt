@@ -1,4 +1,3 @@
-use borrow.Author.Rules.{rules}
 use mathlib.Core.Path.{sym, ◌∙◌}
 use Rattle.map_answer.specs.Answer.{code_of}
 use Rattle.map_answer.proofs.code_at.Goals as goal

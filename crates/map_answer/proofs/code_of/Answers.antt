@@ -1,4 +1,3 @@
-use borrow.Author.Rules.{rules}
 use native.Mathlib.Omega.{arith}
 use Rattle.plate.proofs.Tests.{tests}
 use mathlib.Core.Path.{sym, ◌∙◌}

@@ -1,4 +1,3 @@
-use borrow.Author.Rules.{rules}
 use Rattle.plate.proofs.Tests.{tests}
 use Rattle.map_items.specs.Judge.{has}
 use Rattle.map_answer.specs.Answer.{allowed}

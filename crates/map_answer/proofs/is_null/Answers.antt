@@ -1,4 +1,3 @@
-use borrow.Author.Rules.{rules}
 use Rattle.map_answer.specs.Answer.{is_null}
 use Rattle.map_answer.proofs.is_null.Goals as goal
 

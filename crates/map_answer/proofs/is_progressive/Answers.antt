@@ -1,4 +1,3 @@
-use borrow.Author.Rules.{rules}
 use Rattle.map_answer.specs.Answer.{is_progressive}
 use Rattle.map_answer.proofs.is_progressive.Goals as goal
 

@@ -1,4 +1,3 @@
-use borrow.Author.Rules.{rules}
 use Rattle.map_answer.specs.Answer.{material_of}
 use Rattle.map_answer.proofs.material_says.Goals as goal
 

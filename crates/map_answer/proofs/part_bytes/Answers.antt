@@ -1,4 +1,3 @@
-use borrow.Author.Rules.{rules}
 use native.Mathlib.Omega.{arith}
 use Rattle.map_answer.specs.Inside.{part_bytes}
 use Rattle.map_answer.proofs.part_bytes.Goals as goal

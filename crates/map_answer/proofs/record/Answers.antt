@@ -1,4 +1,3 @@
-use borrow.Author.Rules.{rules}
 use Rattle.map_answer.proofs.Laws.{shown_in, shown_bytes_lem}
 use Rattle.map_answer.specs.Answer.{track_of}
 use Rattle.map_items.specs.Items.{section_of}

@@ -1,4 +1,3 @@
-use borrow.Author.Rules.{rules}
 use Rattle.map_answer.proofs.version.Goals as goal
 
 pub returns-then-null : goal.returns-then-null

@@ -1,4 +1,3 @@
-use borrow.Author.Rules.{rules}
 use mathlib.Core.Path.{sym, ◌∙◌}
 use Rattle.map_aspect.specs.Aspect.{bit_at, dv_aspect}
 use Rattle.map_aspect.proofs.Laws.{valid_some}

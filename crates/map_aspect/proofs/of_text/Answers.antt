@@ -1,4 +1,3 @@
-use borrow.Author.Rules.{rules}
 use mathlib.Core.Path.{sym, ◌∙◌}
 use Rattle.map_aspect.proofs.Laws.{text_ratio}
 use Rattle.map_aspect.proofs.of_text.Goals as goal

@@ -1,10 +1,5 @@
-use borrow.Author.Rules.{rules}
 use native.Mathlib.Omega.{arith}
-use Prim.Native.Nat.{◌+◌, ◌*◌, ◌≤◌}
-use mathlib.Core.Path.{◌≡◌, refl, sym, ◌∙◌}
-use lib.ListN.{length}
-use Rattle.map_given.specs.Given.{tracks_from, tracks_given}
-use Rattle.map_given.specs.Faults.{any_wrong}
+use mathlib.Core.Path.{refl, sym, ◌∙◌}
 use Rattle.map_given.proofs.Laws.{any_wrong_here, any_wrong_later, any_wrong_out}
 use Rattle.map_given.proofs.any_wrong.Goals as goal
 

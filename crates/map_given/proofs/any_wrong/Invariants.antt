@@ -1,11 +1,8 @@
-use borrow.Author.Rules.{rules}
-use native.Mathlib.Omega.{arith}
 use Prim.Native.Nat.{◌+◌, ◌*◌, ◌≤◌}
-use mathlib.Core.Path.{◌≡◌, refl, sym, ◌∙◌}
+use mathlib.Core.Path.{◌≡◌}
 use lib.ListN.{length}
 use Rattle.map_given.specs.Given.{tracks_from, tracks_given}
 use Rattle.map_given.specs.Faults.{any_wrong}
-use Rattle.map_given.proofs.Laws.{any_wrong_here, any_wrong_later, any_wrong_out}
 use Rattle.map_given.proofs.any_wrong.Given as goal
 
 abbrev pub invariant-loop-left : goal.invariant-loop-left

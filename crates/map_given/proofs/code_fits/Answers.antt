@@ -1,4 +1,3 @@
-use borrow.Author.Rules.{rules}
 use Rattle.plate.proofs.Tests.{tests}
 use borrow.Author.Tests.{ne_eqb}
 use Rattle.map_given.specs.Faults.{code_fits}

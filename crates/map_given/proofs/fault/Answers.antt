@@ -1,4 +1,3 @@
-use borrow.Author.Rules.{rules}
 use borrow.Author.Tests.{eq-eqb, ne_eqb}
 use Rattle.map_given.specs.Faults.{fault_of}
 use mathlib.Core.Path.{◌∙◌}

@@ -1,4 +1,3 @@
-use borrow.Author.Rules.{rules}
 use borrow.Author.Tests.{lt-ltb, le-ltb}
 use Rattle.map_given.specs.Inside.{flag_fault}
 use Rattle.map_given.proofs.id_fault.Goals as goal

@@ -1,8 +1,5 @@
-use borrow.Author.Rules.{rules}
 use native.Mathlib.Omega.{arith}
-use Prim.Native.Nat.{◌+◌, ◌*◌, ◌≤◌}
-use lib.ListN.{length}
-use Rattle.map_given.proofs.Ids.{IdsLeft, ids_start, ids_turn, ids_out}
+use Rattle.map_given.proofs.Ids.{ids_start, ids_turn, ids_out}
 use Rattle.map_given.proofs.ids_fault.Goals as goal
 
 pub loop-left-init : goal.loop-left-init

@@ -1,8 +1,6 @@
-use borrow.Author.Rules.{rules}
-use native.Mathlib.Omega.{arith}
 use Prim.Native.Nat.{◌+◌, ◌*◌, ◌≤◌}
 use lib.ListN.{length}
-use Rattle.map_given.proofs.Ids.{IdsLeft, ids_start, ids_turn, ids_out}
+use Rattle.map_given.proofs.Ids.{IdsLeft}
 use Rattle.map_given.proofs.ids_fault.Given as goal
 
 abbrev pub invariant-loop-left : goal.invariant-loop-left

@@ -1,4 +1,3 @@
-use borrow.Author.Rules.{rules}
 use mathlib.Core.Path.{sym, ◌∙◌}
 use Rattle.map_given.proofs.Laws.{wrong_of_mpeg, wrong_of_other}
 use Rattle.map_given.proofs.is_wrong.Goals as goal

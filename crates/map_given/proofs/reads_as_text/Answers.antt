@@ -1,12 +1,10 @@
 use borrow.Author.Rules.{rules}
 use native.Mathlib.Omega.{arith}
 use borrow.Author.Tests.{lt-ltb, le-ltb, eq-eqb, ne_eqb}
-use mathlib.Core.Path.{◌≡◌, refl, sym, ◌∙◌}
-use Prim.Native.Nat.{◌-◌, ◌≤◌}
-use lib.ListN.{length, drop, drop_of_length-le}
+use mathlib.Core.Path.{refl, sym, ◌∙◌}
+use lib.ListN.{drop_of_length-le}
 use Rattle.map_given.proofs.Laws.{text_at}
 use Rattle.text.specs.Text.{text_ok}
-use mathlib.Core.List.{[], ◌∷◌, ◌++◌}
 use Rattle.map_given.proofs.reads_as_text.Goals as goal
 
 pub loop-i-init : goal.loop-i-init

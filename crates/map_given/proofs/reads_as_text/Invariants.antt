@@ -1,10 +1,6 @@
-use borrow.Author.Rules.{rules}
-use native.Mathlib.Omega.{arith}
-use borrow.Author.Tests.{lt-ltb, le-ltb, eq-eqb, ne_eqb}
-use mathlib.Core.Path.{◌≡◌, refl, sym, ◌∙◌}
+use mathlib.Core.Path.{◌≡◌}
 use Prim.Native.Nat.{◌-◌, ◌≤◌}
-use lib.ListN.{length, drop, drop_of_length-le}
-use Rattle.map_given.proofs.Laws.{text_at}
+use lib.ListN.{length, drop}
 use Rattle.text.specs.Text.{text_ok}
 use mathlib.Core.List.{[], ◌∷◌, ◌++◌}
 use Rattle.map_given.proofs.reads_as_text.Given as goal

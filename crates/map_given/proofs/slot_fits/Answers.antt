@@ -1,4 +1,3 @@
-use borrow.Author.Rules.{rules}
 use borrow.Author.Tests.{lt-ltb, le-ltb, le-leb, lt-leb, eq-eqb, ne_eqb}
 use Rattle.map_given.specs.Faults.{is_eight, is_code, fits}
 use mathlib.Core.Path.{sym, ◌∙◌}

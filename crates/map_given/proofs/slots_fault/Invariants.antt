@@ -1,10 +1,7 @@
-use borrow.Author.Rules.{rules}
-use native.Mathlib.Omega.{arith}
-use Rattle.map_given.specs.Faults.{slot_fault, graver, slots_fault}
-use mathlib.Core.Path.{◌≡◌, ◌∙◌, ap}
+use Rattle.map_given.specs.Faults.{graver, slots_fault}
+use mathlib.Core.Path.{◌≡◌}
 use Prim.Native.Nat.{◌+◌, ◌*◌, ◌≤◌, ◌<◌}
 use lib.ListN.{length}
-use Rattle.map_given.proofs.Laws.{slots_fault_turn, slots_fault_out, graver_first}
 use Rattle.map_given.specs.Given.{slots}
 use Rattle.map_given.proofs.slots_fault.Given as goal
 

@@ -1,11 +1,6 @@
-use borrow.Author.Rules.{rules}
 use native.Mathlib.Omega.{arith}
-use Rattle.map_given.specs.Faults.{graver, tracks_fault}
-use mathlib.Core.Path.{◌≡◌, ◌∙◌}
-use Prim.Native.Nat.{◌+◌, ◌*◌, ◌≤◌}
-use lib.ListN.{length}
+use mathlib.Core.Path.{◌∙◌}
 use Rattle.map_given.proofs.Laws.{tracks_fault_turn, tracks_fault_out, graver_first}
-use Rattle.map_given.specs.Given.{tracks_from, tracks_given}
 use Rattle.map_given.proofs.tracks_fault.Goals as goal
 
 pub loop-left-init : goal.loop-left-init

@@ -1,4 +1,3 @@
-use borrow.Author.Rules.{rules}
 use Rattle.plate.proofs.Tests.{tests}
 use Rattle.map_given.specs.Inside.{flagged}
 use Rattle.map_given.proofs.with_id.Goals as goal

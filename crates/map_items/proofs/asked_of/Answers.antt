@@ -1,4 +1,3 @@
-use borrow.Author.Rules.{rules}
 use Rattle.map_items.proofs.asked_of.Goals as goal
 
 pub returns-in-Material : goal.returns-in-Material

@@ -1,8 +1,6 @@
 use borrow.Author.Rules.{rules}
 use native.Mathlib.Omega.{arith}
-use Prim.Native.Nat.{◌≤◌, ◌-◌}
-use lib.ListN.{length}
-use Rattle.map_items.proofs.Lookup.{Left, start, on_done, on_short, on_over, on_found, on_next}
+use Rattle.map_items.proofs.Lookup.{start, on_done, on_short, on_over, on_found, on_next}
 use Rattle.map_items.proofs.found.Goals as goal
 
 pub loop-at-init : goal.loop-at-init

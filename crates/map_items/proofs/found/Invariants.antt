@@ -1,8 +1,6 @@
-use borrow.Author.Rules.{rules}
-use native.Mathlib.Omega.{arith}
 use Prim.Native.Nat.{◌≤◌, ◌-◌}
 use lib.ListN.{length}
-use Rattle.map_items.proofs.Lookup.{Left, start, on_done, on_short, on_over, on_found, on_next}
+use Rattle.map_items.proofs.Lookup.{Left}
 use Rattle.map_items.proofs.found.Given as goal
 
 abbrev pub invariant-loop-at : goal.invariant-loop-at

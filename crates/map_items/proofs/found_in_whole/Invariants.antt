@@ -1,8 +1,6 @@
-use borrow.Author.Rules.{rules}
-use native.Mathlib.Omega.{arith}
 use Prim.Native.Nat.{◌≤◌, ◌-◌}
 use lib.ListN.{length}
-use Rattle.map_items.proofs.Lookup.{on_done, on_found, Whole, whole_start, two_there, all_there, whole_next}
+use Rattle.map_items.proofs.Lookup.{Whole}
 use Rattle.map_items.proofs.found_in_whole.Given as goal
 
 abbrev pub invariant-loop-at : goal.invariant-loop-at

@@ -1,4 +1,3 @@
-use borrow.Author.Rules.{rules}
 use Rattle.map_items.specs.Judge.{is_known}
 use Rattle.map_items.proofs.is_known.Goals as goal
 

@@ -1,10 +1,8 @@
 use borrow.Author.Rules.{rules}
 use native.Mathlib.Omega.{arith}
-use Prim.Native.Nat.{◌≤◌, ◌-◌}
-use mathlib.Core.Path.{◌≡◌, sym, ◌∙◌}
+use mathlib.Core.Path.{sym, ◌∙◌}
 use native.Mathlib.Nat.{add-sub_cancel_left}
-use lib.ListN.{length}
-use Rattle.map_items.proofs.Judged.{Left, start, on_done, on_short, on_over, on_fault, on_unknown, on_twice, on_next, known_range}
+use Rattle.map_items.proofs.Judged.{start, on_done, on_short, on_over, on_fault, on_unknown, on_twice, on_next, known_range}
 use Rattle.map_items.proofs.judge.Goals as goal
 
 pub loop-at-init : goal.loop-at-init
@@ -37,11 +35,11 @@ bounds-seen-k-then-is_known c = let k = known_range _ _ (sym (rw c.asked_of-aske
 
 pub loop-at-preserved-else-seen-k : goal.loop-at-preserved-else-seen-k
 loop-at-preserved-else-seen-k c = let k = known_range _ _ (sym (rw c.asked_of-asked.ensures at c.is_known.ensures) ∙ c.if-is_known.true) in let w = c.wide-k.ensures ∙ c.counts_as.ensures in (
-      omega arith,
-      search rules,
-      on_next _ _ _ _ _ c.loop-at.invariant.2 c.if-left-lt2.false _ c.wide-n.ensures c.if-left-n.false _ (rw (c.asked_of-asked.ensures, add-sub_cancel_left) at c.fault-wrong.ensures) c.if-wrong-ne0.false
-          _ (rw c.asked_of-asked.ensures at c.is_known.ensures) c.if-is_known.true _ w (omega arith) (omega arith) c.loop-at.invariant.1 c.if-seen-k.false,
-    )
+  omega arith,
+  search rules,
+  on_next _ _ _ _ _ c.loop-at.invariant.2 c.if-left-lt2.false _ c.wide-n.ensures c.if-left-n.false _ (rw (c.asked_of-asked.ensures, add-sub_cancel_left) at c.fault-wrong.ensures) c.if-wrong-ne0.false
+      _ (rw c.asked_of-asked.ensures at c.is_known.ensures) c.if-is_known.true _ w (omega arith) (omega arith) c.loop-at.invariant.1 c.if-seen-k.false,
+)
 
 pub loop-at-preserved : goal.loop-at-preserved
 loop-at-preserved c = (

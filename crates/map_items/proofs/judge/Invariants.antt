@@ -1,10 +1,7 @@
-use borrow.Author.Rules.{rules}
-use native.Mathlib.Omega.{arith}
 use Prim.Native.Nat.{◌≤◌, ◌-◌}
-use mathlib.Core.Path.{◌≡◌, sym, ◌∙◌}
-use native.Mathlib.Nat.{add-sub_cancel_left}
+use mathlib.Core.Path.{◌≡◌}
 use lib.ListN.{length}
-use Rattle.map_items.proofs.Judged.{Left, start, on_done, on_short, on_over, on_fault, on_unknown, on_twice, on_next, known_range}
+use Rattle.map_items.proofs.Judged.{Left}
 use Rattle.map_items.proofs.judge.Given as goal
 
 abbrev pub invariant-loop-at : goal.invariant-loop-at

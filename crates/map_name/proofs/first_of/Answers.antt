@@ -1,4 +1,3 @@
-use borrow.Author.Rules.{rules}
 use Rattle.map_name.specs.Inside.{first_of}
 use Rattle.map_name.proofs.first_of.Goals as goal
 

@@ -1,4 +1,3 @@
-use borrow.Author.Rules.{rules}
 use Rattle.map_name.specs.Inside.{in_closing}
 use Rattle.map_name.proofs.in_closing.Goals as goal
 

@@ -1,4 +1,3 @@
-use borrow.Author.Rules.{rules}
 use Rattle.map_name.specs.Inside.{in_opening}
 use Rattle.map_name.proofs.in_opening.Goals as goal
 

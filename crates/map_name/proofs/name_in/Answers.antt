@@ -1,4 +1,3 @@
-use borrow.Author.Rules.{rules}
 use mathlib.Core.Path.{sym, ◌∙◌}
 use Rattle.map_name.specs.Name.{name_in}
 use Rattle.map_name.proofs.name_in.Goals as goal

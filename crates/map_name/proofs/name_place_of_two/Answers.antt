@@ -1,4 +1,3 @@
-use borrow.Author.Rules.{rules}
 use mathlib.Core.Path.{sym, ◌∙◌}
 use lib.Seq.{length-take-le}
 use Rattle.map_name.specs.Name.{name_of_two_at}
@@ -22,11 +21,11 @@ returns-in-Refused-open_map c = rw (sym c.open_map.ensures ∙ c.in-Bytes.is, sy
 pub returns-in-Bytes-open_map : goal.returns-in-Bytes-open_map
 unfolding name_of_two_at
 returns-in-Bytes-open_map c = rw (
-      sym c.open_map.ensures ∙ c.in-Bytes.is,
-      sym c.open_map-in-Bytes.ensures ∙ c.in-Bytes-open_map.is,
-      c.first_of.ensures,
-      c.in_closing-c.ensures,
-      c.in_opening-o.ensures,
-      c.name_in.ensures,
-      c.name_in-in-Bytes-open_map.ensures,
-    ) (two_in_steps _ _)
+  sym c.open_map.ensures ∙ c.in-Bytes.is,
+  sym c.open_map-in-Bytes.ensures ∙ c.in-Bytes-open_map.is,
+  c.first_of.ensures,
+  c.in_closing-c.ensures,
+  c.in_opening-o.ensures,
+  c.name_in.ensures,
+  c.name_in-in-Bytes-open_map.ensures,
+) (two_in_steps _ _)

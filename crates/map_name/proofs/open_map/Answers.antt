@@ -1,4 +1,3 @@
-use borrow.Author.Rules.{rules}
 use mathlib.Core.Path.{sym, ◌∙◌, refl}
 use lib.Seq.{length-take-le}
 use Rattle.map_name.specs.Name.{opened_of}

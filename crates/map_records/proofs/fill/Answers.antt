@@ -1,9 +1,8 @@
-use Prim.Native.Nat.{ℕ, ◌≤◌, ◌<◌}
+use Prim.Native.Nat.{◌<◌}
 use mathlib.Core.Path.{◌≡◌, ap, ◌∙◌}
 use native.Mathlib.Omega.{arith}
 use lib.ListN.{length}
 use borrow.Author.Rules.{rules}
-use Rattle.map.specs.declared.MapAnswer.{MapAnswer}
 use Rattle.map_records.specs.Fill.{answer_for, Filled}
 use Rattle.map_records.specs.Inside.{records_to_write, blank}
 use Rattle.map_records.proofs.Laws.{up_to, up_to_more, writes}

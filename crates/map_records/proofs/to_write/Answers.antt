@@ -1,4 +1,3 @@
-use borrow.Author.Rules.{rules}
 use Rattle.map_records.specs.Inside.{records_to_write}
 use Rattle.map_records.proofs.to_write.Goals as goal
 

@@ -1,12 +1,12 @@
 use borrow.Author.Rules.{rules}
 use native.Mathlib.Omega.{arith}
-use Prim.Native.Nat.{◌≤◌, ◌-◌, ◌+◌}
+use Prim.Native.Nat.{◌-◌}
 use mathlib.Core.Path.{sym, ◌∙◌}
 use native.Mathlib.Nat.{add-zero, zero-add}
-use lib.ListN.{length, get_or}
+use lib.ListN.{get_or}
 use Rattle.media_type.specs.MediaType.{known_type}
-use Rattle.map_tracks.specs.Tracks.{tracks_of, listed, is_listed}
-use Rattle.map_tracks.proofs.Listed.{Left, start, on_done, on_short, on_over, on_track_lem, one_at_most, count_turn}
+use Rattle.map_tracks.specs.Tracks.{listed, is_listed}
+use Rattle.map_tracks.proofs.Listed.{start, on_done, on_short, on_over, on_track_lem, one_at_most, count_turn}
 use Rattle.map_tracks.proofs.count.Goals as goal
 
 pub loop-at-init : goal.loop-at-init

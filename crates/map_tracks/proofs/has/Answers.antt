@@ -1,4 +1,3 @@
-use borrow.Author.Rules.{rules}
 use Rattle.map_tracks.specs.Inside.{holds}
 use Rattle.map_tracks.proofs.has.Goals as goal
 

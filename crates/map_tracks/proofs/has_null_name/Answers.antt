@@ -1,4 +1,3 @@
-use borrow.Author.Rules.{rules}
 use mathlib.Core.Path.{◌∙◌, ap}
 use Rattle.map_answer.specs.Answer.{is_null}
 use Rattle.map_tracks.proofs.has_null_name.Goals as goal

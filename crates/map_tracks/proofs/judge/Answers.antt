@@ -1,10 +1,8 @@
 use borrow.Author.Rules.{rules}
 use native.Mathlib.Omega.{arith}
-use Prim.Native.Nat.{◌≤◌, ◌-◌}
 use mathlib.Core.Path.{sym, ◌∙◌}
 use native.Mathlib.Nat.{add-sub_cancel_left}
-use lib.ListN.{length}
-use Rattle.map_tracks.proofs.Judged.{Left, start, on_done, on_short, on_type, on_id, on_over, on_twice, on_refused, on_next}
+use Rattle.map_tracks.proofs.Judged.{start, on_done, on_short, on_type, on_id, on_over, on_twice, on_refused, on_next}
 use Rattle.map_tracks.proofs.judge.Goals as goal
 
 pub loop-at-init : goal.loop-at-init

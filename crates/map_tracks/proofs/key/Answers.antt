@@ -1,4 +1,3 @@
-use borrow.Author.Rules.{rules}
 use mathlib.Core.Path.{◌∙◌}
 use Rattle.map_tracks.specs.Inside.{key_of}
 use Rattle.map_tracks.proofs.key.Goals as goal

@@ -1,12 +1,12 @@
 use borrow.Author.Rules.{rules}
 use native.Mathlib.Omega.{arith}
-use Prim.Native.Nat.{◌≤◌, ◌-◌, ◌+◌}
+use Prim.Native.Nat.{◌+◌}
 use mathlib.Core.Path.{refl, sym, ap, ◌∙◌}
 use native.Mathlib.Nat.{add-zero, add-sub_cancel_left}
-use lib.ListN.{length, drop}
-use Rattle.map_tracks.specs.Tracks.{split_tracks, tracks_of, listed, is_listed}
+use lib.ListN.{drop}
+use Rattle.map_tracks.specs.Tracks.{split_tracks, listed, is_listed}
 use Rattle.map_tracks.specs.Inside.{keyed_of}
-use Rattle.map_tracks.proofs.Listed.{Left, start, on_done, on_short, on_over, on_track_lem, pass_other, pass_listed, here}
+use Rattle.map_tracks.proofs.Listed.{start, on_done, on_short, on_over, on_track_lem, pass_other, pass_listed, here}
 use Rattle.map_tracks.specs.declared.Kth.TheVariants.{Record}
 use Rattle.map_tracks.proofs.record_by.Goals as goal
 
@@ -31,20 +31,20 @@ returns-then-key-wanted c = let a = c.args in let i = c.loop-at in let n = c.be_
 pub loop-at-preserved-else-key-wanted : goal.loop-at-preserved-else-key-wanted
 unfolding is_listed
 loop-at-preserved-else-key-wanted c = let a = c.args in let i = c.loop-at in (
-      omega arith,
-      omega arith,
-      on_track_lem _ _ _ _ i.invariant.2 c.if-left-lt4.false _ c.be_at-n.ensures c.if-left-n.false _
-          (pass_listed a.s.now a.base i.at c.be_at-n.result c.if-left-n.false a.named i.before a.wanted (λ z. c.if-key-wanted.false (c.key.ensures ∙ z)) (sym c.is_listed.ensures ∙ c.if-is_listed.true)),
-    )
+  omega arith,
+  omega arith,
+  on_track_lem _ _ _ _ i.invariant.2 c.if-left-lt4.false _ c.be_at-n.ensures c.if-left-n.false _
+      (pass_listed a.s.now a.base i.at c.be_at-n.result c.if-left-n.false a.named i.before a.wanted (λ z. c.if-key-wanted.false (c.key.ensures ∙ z)) (sym c.is_listed.ensures ∙ c.if-is_listed.true)),
+)
 
 pub loop-at-preserved : goal.loop-at-preserved
 unfolding is_listed
 loop-at-preserved c = let a = c.args in let i = c.loop-at in (
-      omega arith,
-      omega arith,
-      on_track_lem _ _ _ _ i.invariant.2 c.if-left-lt4.false _ c.be_at-n.ensures c.if-left-n.false _
-          (pass_other a.s.now a.base i.at c.be_at-n.result c.if-left-n.false a.named i.before a.wanted (sym c.is_listed.ensures ∙ c.if-is_listed.false)),
-    )
+  omega arith,
+  omega arith,
+  on_track_lem _ _ _ _ i.invariant.2 c.if-left-lt4.false _ c.be_at-n.ensures c.if-left-n.false _
+      (pass_other a.s.now a.base i.at c.be_at-n.result c.if-left-n.false a.named i.before a.wanted (sym c.is_listed.ensures ∙ c.if-is_listed.false)),
+)
 
 pub returns : goal.returns
 unfolding keyed_of listed

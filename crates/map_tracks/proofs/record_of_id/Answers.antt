@@ -1,4 +1,3 @@
-use borrow.Author.Rules.{rules}
 use mathlib.Core.Path.{◌∙◌}
 use Rattle.map_tracks.proofs.Listed.{keyed_id}
 use Rattle.map_tracks.proofs.record_of_id.Goals as goal

@@ -1,11 +1,7 @@
-use borrow.Author.Rules.{rules}
-use native.Mathlib.Omega.{arith}
-use native.Mathlib.Nat.{add-sub_cancel_left}
 use Prim.Native.Nat.{◌≤◌, ◌-◌}
-use mathlib.Core.Path.{refl, sym, ◌∙◌}
 use lib.ListN.{length, replicate}
-use Rattle.map_tracks.specs.Tracks.{tracks_of, types_of, is_listed}
-use Rattle.map_tracks.proofs.Listed.{Left, start, on_done, on_short, on_over, on_track_lem, type_turn}
+use Rattle.map_tracks.specs.Tracks.{tracks_of, types_of}
+use Rattle.map_tracks.proofs.Listed.{Left}
 use Rattle.map_tracks.proofs.types_by_id.Given as goal
 
 abbrev pub invariant-loop-at : goal.invariant-loop-at

@@ -1,8 +1,8 @@
 use borrow.Author.Rules.{rules}
 use native.Mathlib.Omega.{arith}
 use mathlib.Core.Path.{◌≡◌, refl, ◌∙◌, ap}
-use Prim.Native.Nat.{◌+◌, ◌-◌, ◌≤◌, ℕ}
-use lib.ListN.{length, drop, take, length-set}
+use Prim.Native.Nat.{◌+◌, ℕ}
+use lib.ListN.{drop, take, length-set}
 use lib.Seq.{sets}
 use Rattle.map_writer.proofs.Puts.{copy_more}
 use Rattle.map_writer.proofs.copy.Goals as goal

@@ -1,4 +1,3 @@
-use borrow.Author.Rules.{rules}
 use mathlib.Core.Path.{refl}
 use Rattle.map.specs.Encode.{padding}
 use Rattle.map_writer.proofs.padding_of.Goals as goal

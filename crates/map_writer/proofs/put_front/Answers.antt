@@ -1,4 +1,3 @@
-use borrow.Author.Rules.{rules}
 use mathlib.Core.Path.{◌∙◌}
 use Rattle.map_writer.proofs.Packet.{first_run}
 use Rattle.map_writer.proofs.put_front.Goals as goal

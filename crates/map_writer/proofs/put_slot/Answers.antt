@@ -1,4 +1,3 @@
-use borrow.Author.Rules.{rules}
 use mathlib.Core.Path.{sym, ap}
 use lib.Seq.{sets}
 use Rattle.map_writer.proofs.Puts.{absent_bytes}

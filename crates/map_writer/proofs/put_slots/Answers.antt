@@ -1,13 +1,6 @@
-use borrow.Author.Rules.{rules}
 use native.Mathlib.Omega.{arith}
-use Rattle.map_given.specs.Faults.{fits}
 use mathlib.Core.Path.{refl, ◌∙◌, ap}
-use lib.ListN.{length}
-use lib.Seq.{sets}
-use Rattle.map_given.specs.Given.{slots}
-use Rattle.map_items.specs.Items.{items_bytes}
-use Rattle.map_writer.specs.Write.{items_of}
-use Rattle.map_writer.proofs.Puts.{SlotsLeft, slot_clean, slot_room, slots_turn, slots_done}
+use Rattle.map_writer.proofs.Puts.{slot_clean, slot_room, slots_turn, slots_done}
 use Rattle.map_writer.specs.Inside.{slot_size}
 use Rattle.map_writer.proofs.put_slots.Goals as goal
 

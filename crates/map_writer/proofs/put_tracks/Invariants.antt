@@ -1,14 +1,8 @@
-use borrow.Author.Rules.{rules}
-use native.Mathlib.Omega.{arith}
-use Rattle.map_given.specs.Faults.{fits}
-use mathlib.Core.Path.{refl, ◌∙◌}
 use lib.ListN.{length}
 use lib.Seq.{sets}
 use Rattle.map_given.specs.Given.{tracks_given}
 use Rattle.map_writer.specs.Inside.{tracks_bytes}
-use Rattle.map_writer.proofs.PutTracks.{TracksLeft, track_clean, track_narrow, track_type, track_room, tracks_turn, tracks_done}
-use Rattle.map_writer.proofs.Bounds.{track_most}
-use Rattle.map_given.proofs.Clean.{ids_narrow}
+use Rattle.map_writer.proofs.PutTracks.{TracksLeft}
 use Rattle.map_writer.proofs.put_tracks.Given as goal
 
 abbrev pub invariant-loop-left : goal.invariant-loop-left

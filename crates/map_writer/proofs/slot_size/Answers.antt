@@ -1,4 +1,3 @@
-use borrow.Author.Rules.{rules}
 use borrow.Author.Tests.{lt-ltb, le-ltb, eq-eqb, ne_eqb}
 use Rattle.map_given.specs.Faults.{is_eight}
 use mathlib.Core.Path.{sym, ◌∙◌}

@@ -1,11 +1,7 @@
-use borrow.Author.Rules.{rules}
 use native.Mathlib.Omega.{arith}
-use mathlib.Core.Path.{◌≡◌, ◌∙◌, ap}
-use Prim.Native.Nat.{◌+◌, ◌*◌, ◌≤◌, ◌<◌}
-use lib.ListN.{length}
+use mathlib.Core.Path.{◌∙◌, ap}
 use Rattle.map_writer.proofs.Laws.{slots_size_turn, slots_size_out}
-use Rattle.map_writer.specs.Inside.{slot_size, slots_size}
-use Rattle.map_given.specs.Given.{slots}
+use Rattle.map_writer.specs.Inside.{slot_size}
 use Rattle.map_writer.proofs.slots_size.Goals as goal
 
 pub loop-left-init : goal.loop-left-init

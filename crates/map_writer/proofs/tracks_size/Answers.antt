@@ -1,11 +1,5 @@
-use borrow.Author.Rules.{rules}
 use native.Mathlib.Omega.{arith}
-use mathlib.Core.Path.{◌≡◌}
-use Prim.Native.Nat.{◌+◌, ◌*◌, ◌≤◌}
-use lib.ListN.{length}
 use Rattle.map_writer.proofs.Laws.{tracks_size_turn, tracks_size_out}
-use Rattle.map_writer.specs.Inside.{tracks_size}
-use Rattle.map_given.specs.Given.{tracks_from, tracks_given}
 use Rattle.map_writer.proofs.tracks_size.Goals as goal
 
 pub loop-left-init : goal.loop-left-init

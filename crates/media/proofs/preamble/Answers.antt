@@ -1,4 +1,3 @@
-use borrow.Author.Rules.{rules}
 use Rattle.plate.proofs.Tests.{tests}
 use Rattle.number.proofs.Laws.{be_lt}
 use Rattle.media.specs.Media.{preamble_of}

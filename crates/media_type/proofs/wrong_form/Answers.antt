@@ -1,4 +1,3 @@
-use borrow.Author.Rules.{rules}
 use mathlib.Core.Path.{sym, ◌∙◌}
 use Rattle.media_type.specs.MediaType.{wrong_form}
 use Rattle.media_type.proofs.wrong_form.Goals as goal

@@ -1,4 +1,3 @@
-use borrow.Author.Rules.{rules}
 use mathlib.Core.Path.{sym, ◌∙◌}
 use Rattle.mpeg.specs.Read.{parameters_answer}
 use Rattle.mpeg.proofs.answer.Goals as goal

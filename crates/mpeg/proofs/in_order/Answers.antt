@@ -1,9 +1,7 @@
-use borrow.Author.Rules.{rules}
 use native.Mathlib.Omega.{arith}
-use Prim.Native.Nat.{ℕ, ◌+◌, ◌-◌, ◌<◌, ◌≤◌}
+use Prim.Native.Nat.{ℕ, ◌+◌, ◌<◌, ◌≤◌}
 use mathlib.Core.List.{List}
-use mathlib.Core.Path.{◌≡◌, sym, refl, ap, ◌∙◌}
-use lib.ListN.{length}
+use mathlib.Core.Path.{sym, refl, ap, ◌∙◌}
 use Rattle.mpeg_scan.specs.Scan.{other}
 use Rattle.mpeg_scan.proofs.Laws.{run_from}
 use Rattle.mpeg.specs.Lines.{lines_at}

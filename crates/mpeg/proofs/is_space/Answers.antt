@@ -1,4 +1,3 @@
-use borrow.Author.Rules.{rules}
 use Prim.Native.Nat.{ℕ}
 use Rattle.mpeg_scan.proofs.Laws.{past}
 use Rattle.mpeg.proofs.is_space.Goals as goal

@@ -1,4 +1,3 @@
-use borrow.Author.Rules.{rules}
 use mathlib.Core.Path.{sym, ◌∙◌}
 use Rattle.mpeg.specs.Read.{parameters_answer, ratio_of}
 use Rattle.mpeg_parameter.specs.Parameters.{parameters_of}

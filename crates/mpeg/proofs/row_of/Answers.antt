@@ -1,4 +1,3 @@
-use borrow.Author.Rules.{rules}
 use mathlib.Core.Path.{sym}
 use Rattle.mpeg_parameter.specs.Table.{row_of}
 use Rattle.mpeg_parameter.proofs.Rows.{long}

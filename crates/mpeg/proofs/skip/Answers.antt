@@ -1,9 +1,6 @@
-use borrow.Author.Rules.{rules}
 use native.Mathlib.Omega.{arith}
-use Prim.Native.Nat.{◌<◌, ◌-◌}
+use Prim.Native.Nat.{◌<◌}
 use mathlib.Core.Path.{sym, ◌∙◌, refl}
-use lib.ListN.{length}
-use Rattle.mpeg.specs.Inside.{Skipped}
 use Rattle.mpeg.proofs.Turns.{next_in}
 use Rattle.mpeg.proofs.Judging.{skip_more}
 use Rattle.mpeg.proofs.skip.Goals as goal

@@ -1,11 +1,6 @@
-use borrow.Author.Rules.{rules}
-use native.Mathlib.Omega.{arith}
-use Prim.Native.Nat.{◌<◌, ◌-◌}
-use mathlib.Core.Path.{sym, ◌∙◌, refl}
+use Prim.Native.Nat.{◌-◌}
 use lib.ListN.{length}
 use Rattle.mpeg.specs.Inside.{Skipped}
-use Rattle.mpeg.proofs.Turns.{next_in}
-use Rattle.mpeg.proofs.Judging.{skip_more}
 use Rattle.mpeg.proofs.skip.Given as goal
 
 abbrev pub invariant-loop-at : goal.invariant-loop-at

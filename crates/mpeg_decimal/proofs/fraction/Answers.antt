@@ -1,4 +1,3 @@
-use borrow.Author.Rules.{rules}
 use native.Mathlib.Omega.{arith}
 use mathlib.Core.Path.{sym, ◌∙◌}
 use Rattle.mpeg_decimal.proofs.Laws.{numeral_most, numeral_lt, after_length, fraction_empty, fraction_point, scaled}

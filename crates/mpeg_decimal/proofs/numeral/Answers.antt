@@ -1,10 +1,8 @@
-use borrow.Author.Rules.{rules}
 use native.Mathlib.Omega.{arith}
-use Prim.Native.Nat.{◌≤◌, ◌<◌, ◌-◌, ◌^◌}
-use mathlib.Core.Path.{◌≡◌, sym, ◌∙◌}
+use mathlib.Core.Path.{sym, ◌∙◌}
 use borrow.Author.Tests.{lt-ltb, le-ltb, lt-leb, le-leb}
-use lib.ListN.{length, drop}
-use Rattle.mpeg_decimal.specs.Decimal.{numeral_of, digits}
+use lib.ListN.{length}
+use Rattle.mpeg_decimal.specs.Decimal.{numeral_of}
 use Rattle.mpeg_decimal.proofs.Laws.{more, room, numeral_start, digits_turn, digits_end}
 use Rattle.mpeg_decimal.proofs.numeral.Goals as goal
 
@@ -33,10 +31,10 @@ overflow_add-n c = let l = c.loop-i in let r = room l.i (omega arith) l.invarian
 
 pub loop-i-preserved : goal.loop-i-preserved
 loop-i-preserved c = let l = c.loop-i in (
-      omega arith,
-      more l.i l.invariant.1 (omega arith),
-      l.invariant.2 ∙ digits_turn _ _ _ c.loop-i-test.true ∙ simp (le-leb _ _ c.if-b-lt48.false, le-leb _ _ c.if-b-gt57.false),
-    )
+  omega arith,
+  more l.i l.invariant.1 (omega arith),
+  l.invariant.2 ∙ digits_turn _ _ _ c.loop-i-test.true ∙ simp (le-leb _ _ c.if-b-lt48.false, le-leb _ _ c.if-b-gt57.false),
+)
 
 pub returns : goal.returns
 returns c = sym (c.loop-i.invariant.2 ∙ digits_end _ _ _ c.loop-i-test.false)

@@ -1,11 +1,7 @@
-use borrow.Author.Rules.{rules}
-use native.Mathlib.Omega.{arith}
 use Prim.Native.Nat.{◌≤◌, ◌<◌, ◌-◌, ◌^◌}
-use mathlib.Core.Path.{◌≡◌, sym, ◌∙◌}
-use borrow.Author.Tests.{lt-ltb, le-ltb, lt-leb, le-leb}
+use mathlib.Core.Path.{◌≡◌}
 use lib.ListN.{length, drop}
 use Rattle.mpeg_decimal.specs.Decimal.{numeral_of, digits}
-use Rattle.mpeg_decimal.proofs.Laws.{more, room, numeral_start, digits_turn, digits_end}
 use Rattle.mpeg_decimal.proofs.numeral.Given as goal
 
 abbrev pub invariant-loop-i : goal.invariant-loop-i

@@ -1,4 +1,3 @@
-use borrow.Author.Rules.{rules}
 use Rattle.mpeg_decimal.specs.Decimal.{whole_of}
 use Rattle.mpeg_decimal.proofs.whole.Goals as goal
 

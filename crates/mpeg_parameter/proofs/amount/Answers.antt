@@ -1,4 +1,3 @@
-use borrow.Author.Rules.{rules}
 use mathlib.Core.Path.{sym}
 use Rattle.mpeg_parameter.specs.Parameters.{amount_of}
 use Rattle.mpeg_parameter.proofs.amount.Goals as goal

@@ -1,6 +1,4 @@
-use borrow.Author.Rules.{rules}
 use native.Mathlib.Omega.{arith}
-use Prim.Native.Nat.{◌≤◌}
 use mathlib.Core.Path.{◌≡◌, sym, ◌∙◌}
 use Rattle.mpeg_parameter.specs.Parameters.{lacking}
 use Rattle.mpeg_parameter.proofs.Laws.{lacking_turn}

@@ -1,9 +1,6 @@
-use borrow.Author.Rules.{rules}
-use native.Mathlib.Omega.{arith}
 use Prim.Native.Nat.{◌≤◌}
-use mathlib.Core.Path.{◌≡◌, sym, ◌∙◌}
+use mathlib.Core.Path.{◌≡◌}
 use Rattle.mpeg_parameter.specs.Parameters.{lacking}
-use Rattle.mpeg_parameter.proofs.Laws.{lacking_turn}
 use Rattle.mpeg_parameter.proofs.is_lacking.Given as goal
 
 abbrev pub invariant-loop-k : goal.invariant-loop-k

@@ -1,4 +1,3 @@
-use borrow.Author.Rules.{rules}
 use mathlib.Core.Path.{sym, ◌∙◌}
 use Rattle.mpeg_parameter.specs.Parameters.{wanting}
 use Rattle.mpeg_parameter.proofs.is_wanting.Goals as goal

@@ -1,4 +1,3 @@
-use borrow.Author.Rules.{rules}
 use Rattle.mpeg_parameter.specs.Parameters.{parameters_of}
 use Rattle.mpeg_parameter.proofs.parameters_of.Goals as goal
 

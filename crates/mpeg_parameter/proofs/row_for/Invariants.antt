@@ -1,13 +1,7 @@
-use borrow.Author.Rules.{rules}
-use native.Mathlib.Omega.{arith}
-use mathlib.Core.Bool.{false}
 use Prim.Native.Nat.{◌≤◌, ◌-◌}
-use mathlib.Core.Path.{◌≡◌, sym, ◌∙◌}
-use borrow.Author.Tests.{eq-eqb, ne_eqb}
+use mathlib.Core.Path.{◌≡◌}
 use Rattle.mpeg_scan.specs.Scan.{run_end}
-use Rattle.mpeg_scan.proofs.Laws.{run_out, run_stop, run_go, run_start}
-use Rattle.mpeg_parameter.specs.Table.{table, row_at, row_for, other_row, whole}
-use Rattle.mpeg_parameter.proofs.Rows.{rows}
+use Rattle.mpeg_parameter.specs.Table.{table, row_for, other_row}
 use Rattle.mpeg_parameter.proofs.row_for.Given as goal
 
 abbrev pub invariant-loop-k : goal.invariant-loop-k

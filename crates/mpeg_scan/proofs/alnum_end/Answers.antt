@@ -1,8 +1,4 @@
-use borrow.Author.Rules.{rules}
-use Prim.Native.Nat.{◌-◌}
-use mathlib.Core.Path.{◌≡◌, sym, refl, ◌∙◌}
-use lib.ListN.{length}
-use Rattle.mpeg_scan.specs.Scan.{run_end, alnum}
+use mathlib.Core.Path.{sym, refl, ◌∙◌}
 use Rattle.mpeg_scan.proofs.Laws.{run_out, run_stop, run_go}
 use Rattle.mpeg_scan.proofs.alnum_end.Goals as goal
 

@@ -1,10 +1,7 @@
-use borrow.Author.Rules.{rules}
 use Prim.Native.Nat.{◌-◌}
-use mathlib.Core.Path.{◌≡◌, sym, refl, ◌∙◌}
-use borrow.Author.Tests.{eq-eqb, ne_eqb}
+use mathlib.Core.Path.{◌≡◌}
 use lib.ListN.{length}
 use Rattle.mpeg_scan.specs.Scan.{run_end, other}
-use Rattle.mpeg_scan.proofs.Laws.{run_out, run_stop, run_go}
 use Rattle.mpeg_scan.proofs.until.Given as goal
 
 abbrev pub invariant-loop-i : goal.invariant-loop-i

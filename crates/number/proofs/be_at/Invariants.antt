@@ -1,9 +1,6 @@
-use borrow.Author.Rules.{rules}
-use native.Mathlib.Omega.{arith}
-use Prim.Native.Nat.{◌≤◌, ◌-◌, ◌+◌}
+use Prim.Native.Nat.{◌≤◌, ◌-◌}
 use mathlib.Core.Path.{◌≡◌}
 use Rattle.number.specs.Number.{be}
-use Rattle.number.proofs.Laws.{be_lt, be_again, room}
 use Rattle.number.proofs.be_at.Given as goal
 
 abbrev pub invariant-loop-i : goal.invariant-loop-i

@@ -1,10 +1,6 @@
-use borrow.Author.Rules.{rules}
-use native.Mathlib.Omega.{arith}
 use Prim.Native.Nat.{◌≤◌, ◌-◌, ◌+◌}
-use mathlib.Core.Path.{◌≡◌, ◌∙◌}
-use native.Mathlib.Nat.{sub_self, sub-zero, add-zero}
+use mathlib.Core.Path.{◌≡◌}
 use Rattle.number.specs.Number.{le}
-use Rattle.number.proofs.Laws.{le_lt, le_again, room}
 use Rattle.number.proofs.le_at.Given as goal
 
 abbrev pub invariant-loop-i : goal.invariant-loop-i

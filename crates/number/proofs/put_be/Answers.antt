@@ -1,9 +1,6 @@
 use borrow.Author.Rules.{rules}
 use native.Mathlib.Omega.{arith}
-use Prim.Native.Nat.{◌≤◌}
 use mathlib.Core.Path.{◌≡◌, refl, sym, ◌∙◌}
-use lib.ListN.{length}
-use lib.Seq.{sets}
 use Rattle.number.specs.Number.{be_bytes}
 use Rattle.number.proofs.Stores.{from_right}
 use Rattle.number.proofs.put_be.Goals as goal

@@ -1,11 +1,8 @@
-use borrow.Author.Rules.{rules}
-use native.Mathlib.Omega.{arith}
 use Prim.Native.Nat.{◌≤◌}
-use mathlib.Core.Path.{◌≡◌, refl, sym, ◌∙◌}
+use mathlib.Core.Path.{◌≡◌}
 use lib.ListN.{length}
 use lib.Seq.{sets}
 use Rattle.number.specs.Number.{be_bytes}
-use Rattle.number.proofs.Stores.{from_right}
 use Rattle.number.proofs.put_be.Given as goal
 
 abbrev pub invariant-loop-i : goal.invariant-loop-i

@@ -1,10 +1,7 @@
 use borrow.Author.Rules.{rules}
 use native.Mathlib.Omega.{arith}
-use Prim.Native.Nat.{◌≤◌, ◌-◌, ◌+◌}
 use mathlib.Core.Path.{◌≡◌, sym, ◌∙◌}
 use native.Mathlib.Nat.{sub_self, sub-zero, add-zero}
-use lib.ListN.{length}
-use lib.Seq.{sets}
 use Rattle.number.specs.Number.{le_bytes}
 use Rattle.number.proofs.Stores.{from_left}
 use Rattle.number.proofs.put_le.Goals as goal

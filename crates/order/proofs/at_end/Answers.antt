@@ -1,4 +1,3 @@
-use borrow.Author.Rules.{rules}
 use Rattle.order.specs.Order.{ending}
 use Rattle.order.proofs.at_end.Goals as goal
 

@@ -1,4 +1,3 @@
-use borrow.Author.Rules.{rules}
 use borrow.Author.Tests.{eq-eqb, ne_eqb}
 use Rattle.order.specs.Order.{unmapped}
 use Rattle.order.proofs.is_unmapped.Goals as goal

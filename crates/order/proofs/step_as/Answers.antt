@@ -1,4 +1,3 @@
-use borrow.Author.Rules.{rules}
 use mathlib.Core.Path.{sym, ◌∙◌}
 use borrow.Author.Tests.{eq-eqb, ne_eqb}
 use Rattle.order.proofs.step_as.Goals as goal
@@ -15,17 +14,17 @@ returns-then-is_unmapped c = rw (sym c.is_misplaced.ensures ∙ c.if-is_misplace
 
 pub returns-then-packet_type-eq-EOS : goal.returns-then-packet_type-eq-EOS
 returns-then-packet_type-eq-EOS c = rw (
-      sym c.is_misplaced.ensures ∙ c.if-is_misplaced.false,
-      sym c.is_overdue.ensures ∙ c.if-is_overdue.false,
-      sym c.is_unmapped.ensures ∙ c.if-is_unmapped.false,
-      eq-eqb _ _ c.if-packet_type-eq-EOS.true,
-    ) c.at_end.ensures
+  sym c.is_misplaced.ensures ∙ c.if-is_misplaced.false,
+  sym c.is_overdue.ensures ∙ c.if-is_overdue.false,
+  sym c.is_unmapped.ensures ∙ c.if-is_unmapped.false,
+  eq-eqb _ _ c.if-packet_type-eq-EOS.true,
+) c.at_end.ensures
 
 pub returns : goal.returns
 returns c = rw (
-      sym c.is_misplaced.ensures ∙ c.if-is_misplaced.false,
-      sym c.is_overdue.ensures ∙ c.if-is_overdue.false,
-      sym c.is_unmapped.ensures ∙ c.if-is_unmapped.false,
-      ne_eqb _ _ c.if-packet_type-eq-EOS.false,
-      c.passed.ensures,
-    )
+  sym c.is_misplaced.ensures ∙ c.if-is_misplaced.false,
+  sym c.is_overdue.ensures ∙ c.if-is_overdue.false,
+  sym c.is_unmapped.ensures ∙ c.if-is_unmapped.false,
+  ne_eqb _ _ c.if-packet_type-eq-EOS.false,
+  c.passed.ensures,
+)

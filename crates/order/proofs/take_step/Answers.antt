@@ -1,4 +1,3 @@
-use borrow.Author.Rules.{rules}
 use Rattle.order.specs.Order.{step_of}
 use Rattle.order.proofs.take_step.Goals as goal
 

@@ -1,7 +1,6 @@
-use borrow.Author.Rules.{rules}
 use mathlib.Core.Path.{sym, ◌∙◌}
 use borrow.Author.Tests.{le-ltb}
-use Rattle.plate.proofs.Tests.{tests, off, on}
+use Rattle.plate.proofs.Tests.{tests}
 use Rattle.packet.specs.Packet.{header_at}
 use Rattle.packet.proofs.header.Goals as goal
 

@@ -1,4 +1,3 @@
-use borrow.Author.Rules.{rules}
 use mathlib.Core.Path.{refl, sym, ◌∙◌}
 use Rattle.packet.proofs.Laws.{leads, leads_not}
 use Rattle.packet.proofs.is_leader.Goals as goal

@@ -1,4 +1,3 @@
-use borrow.Author.Rules.{rules}
 use borrow.Author.Tests.{ne_eqb}
 use Rattle.piece.specs.Piece.{content_of}
 use Rattle.piece.proofs.content.Goals as goal

@@ -1,7 +1,6 @@
 use Prim.Native.Nat.{ℕ, ◌≤◌}
-use mathlib.Core.Path.{◌≡◌, ◌∙◌, ap, sym}
+use mathlib.Core.Path.{◌≡◌, ◌∙◌, ap}
 use mathlib.Core.List.{List, ◌++◌}
-use native.Mathlib.Omega.{arith}
 use borrow.Author.Rules.{rules}
 use lib.ListN.{length, take, drop}
 use lib.Seq.{length-take-le}
@@ -9,7 +8,6 @@ use Rattle.map_answer.specs.declared.Track.{Track}
 use Rattle.map.specs.declared.MapAnswer.{MapAnswer}
 use Rattle.map_records.specs.Fill.{records_at, answer_for, lent_after, Filled}
 use Rattle.probe_records.specs.Lent.{afterwards, after_fill}
-use Rattle.probe_records.specs.declared.After.{After}
 use Rattle.probe_records.proofs.lend.Goals as goal
 
 -- what a call on the first n of the records left, with the others behind

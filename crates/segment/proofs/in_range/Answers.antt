@@ -1,7 +1,3 @@
-use Rattle.segment.proofs.in_range.Reads as reads
-use Rattle.segment.proofs.in_range.Lts as lts
-use borrow.Author.Rules.{rules}
-use native.Mathlib.Omega.{arith}
 use Rattle.segment.specs.Segment.{in_range}
 use lib.Ieee as Ieee
 use Rattle.segment.proofs.in_range.Goals as goal

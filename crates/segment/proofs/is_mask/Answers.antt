@@ -1,12 +1,5 @@
-use borrow.Author.Rules.{rules}
-use Rattle.segment.proofs.is_mask.Reads as reads
-use Rattle.segment.proofs.is_mask.Lts as lts
-use Rattle.umf_answer.proofs.is_in.Reads as is-in-reads
-use borrow.Author.Rules.{rules}
-use native.Mathlib.Omega.{arith}
 use mathlib.Core.Path.{sym, ◌∙◌}
 use borrow.Author.Tests.{le-leb, lt-leb, eq-eqb, ne_eqb}
-use Rattle.plate.proofs.Tests.{on, off}
 use Rattle.segment.specs.Segment.{is_mask}
 use Rattle.segment.proofs.is_mask.Goals as goal
 

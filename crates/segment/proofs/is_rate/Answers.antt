@@ -1,10 +1,3 @@
-use borrow.Author.Rules.{rules}
-use Rattle.segment.proofs.is_rate.Reads as reads
-use Rattle.segment.proofs.is_rate.Lts as lts
-use Rattle.segment.proofs.is_type.Reads as is-type-reads
-use Rattle.umf_answer.proofs.is_in.Reads as is-in-reads
-use borrow.Author.Rules.{rules}
-use native.Mathlib.Omega.{arith}
 use mathlib.Core.Path.{sym, ◌∙◌}
 use borrow.Author.Tests.{eq-eqb, ne_eqb}
 use Rattle.segment.specs.Segment.{rates_of}

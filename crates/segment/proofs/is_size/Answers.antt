@@ -1,11 +1,4 @@
-use borrow.Author.Rules.{rules}
-use Rattle.segment.proofs.is_size.Reads as reads
-use Rattle.segment.proofs.is_size.Lts as lts
-use Rattle.segment.proofs.is_type.Reads as is-type-reads
-use Rattle.umf_answer.proofs.is_in.Reads as is-in-reads
-use borrow.Author.Rules.{rules}
-use native.Mathlib.Omega.{arith}
-use mathlib.Core.Path.{◌≡◌, refl, sym, ◌∙◌}
+use mathlib.Core.Path.{◌≡◌, refl, ◌∙◌}
 use Prim.Native.Nat.{ℕ}
 use mathlib.Core.List.{[]}
 use mathlib.Core.Bool.{Bool, true, false}

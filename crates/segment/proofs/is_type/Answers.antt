@@ -1,7 +1,3 @@
-use Rattle.segment.proofs.is_type.Reads as reads
-use Rattle.segment.proofs.is_type.Lts as lts
-use borrow.Author.Rules.{rules}
-use native.Mathlib.Omega.{arith}
 use borrow.Author.Tests.{le-leb, lt-leb}
 use Rattle.segment.specs.Segment.{is_type}
 use Rattle.segment.proofs.is_type.Goals as goal

@@ -1,10 +1,3 @@
-use borrow.Author.Rules.{rules}
-use Rattle.segment.proofs.jpeg_says.Reads as reads
-use Rattle.segment.proofs.jpeg_says.Lts as lts
-use Rattle.segment.proofs.bits_at.Reads as bits-at-reads
-use Rattle.segment.proofs.number_of.Reads as number-of-reads
-use borrow.Author.Rules.{rules}
-use native.Mathlib.Omega.{arith}
 use Rattle.segment.specs.Segment.{jpeg_of}
 use Rattle.segment.proofs.jpeg_says.Goals as goal
 

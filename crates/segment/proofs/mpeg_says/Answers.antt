@@ -1,11 +1,3 @@
-use borrow.Author.Rules.{rules}
-use Rattle.segment.proofs.mpeg_says.Reads as reads
-use Rattle.segment.proofs.mpeg_says.Lts as lts
-use Rattle.segment.proofs.listed.Reads as listed-reads
-use Rattle.segment.proofs.mpeg_attributes.Reads as mpeg-attributes-reads
-use Rattle.umf_answer.proofs.word.Reads as word-reads
-use borrow.Author.Rules.{rules}
-use native.Mathlib.Omega.{arith}
 use Rattle.segment.specs.Segment.{mpeg_of}
 use Rattle.segment.proofs.mpeg_says.Goals as goal
 

@@ -1,7 +1,3 @@
-use Rattle.segment.proofs.number_of.Reads as reads
-use Rattle.segment.proofs.number_of.Lts as lts
-use borrow.Author.Rules.{rules}
-use native.Mathlib.Omega.{arith}
 use Rattle.segment.specs.Segment.{number_of}
 use Rattle.segment.proofs.Floats.{is_number, is_none}
 use Rattle.segment.proofs.number_of.Goals as goal

@@ -1,12 +1,8 @@
 use borrow.Author.Rules.{rules}
-use Rattle.segment.proofs.segment_at.Reads as reads
-use Rattle.segment.proofs.segment_at.Lts as lts
-use Rattle.segment.proofs.segment_says.Reads as segment-says-reads
-use Rattle.umf.proofs.place.Reads as place-reads
 use borrow.Author.Rules.{rules}
 use native.Mathlib.Omega.{arith}
 use native.Mathlib.Nat.{add-sub_cancel_left}
-use mathlib.Core.Path.{refl, sym, ◌∙◌, ap}
+use mathlib.Core.Path.{refl, sym, ◌∙◌}
 use Rattle.umf.specs.Split.{least_of}
 use Rattle.umf.proofs.Stands.{stands, refused_by}
 use Rattle.segment.specs.Segment.{segment_in, segment_at}

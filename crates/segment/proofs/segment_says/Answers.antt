@@ -1,17 +1,3 @@
-use borrow.Author.Rules.{rules}
-use Rattle.segment.proofs.segment_says.Reads as reads
-use Rattle.segment.proofs.segment_says.Lts as lts
-use Rattle.segment.proofs.is_rate.Reads as is-rate-reads
-use Rattle.segment.proofs.is_size.Reads as is-size-reads
-use Rattle.segment.proofs.is_type.Reads as is-type-reads
-use Rattle.segment.proofs.specification_of.Reads as specification-of-reads
-use Rattle.segment.proofs.text_at.Reads as text-at-reads
-use Rattle.umf_answer.proofs.half.Reads as half-reads
-use Rattle.umf_answer.proofs.is_track.Reads as is-track-reads
-use Rattle.umf_answer.proofs.shown_if.Reads as shown-if-reads
-use Rattle.umf_answer.proofs.word.Reads as word-reads
-use borrow.Author.Rules.{rules}
-use native.Mathlib.Omega.{arith}
 use Rattle.segment.specs.Segment.{segment_of, allowed}
 use Rattle.segment.proofs.segment_says.Goals as goal
 

@@ -1,16 +1,3 @@
-use borrow.Author.Rules.{rules}
-use Rattle.segment.proofs.specification_of.Reads as reads
-use Rattle.segment.proofs.specification_of.Lts as lts
-use Rattle.segment.proofs.audio_says.Reads as audio-says-reads
-use Rattle.segment.proofs.avc_attributes.Reads as avc-attributes-reads
-use Rattle.segment.proofs.dv_attributes.Reads as dv-attributes-reads
-use Rattle.segment.proofs.jpeg_says.Reads as jpeg-says-reads
-use Rattle.segment.proofs.mpeg_says.Reads as mpeg-says-reads
-use Rattle.segment.proofs.time_code_says.Reads as time-code-says-reads
-use Rattle.umf_answer.proofs.is_in.Reads as is-in-reads
-use Rattle.umf_answer.proofs.word.Reads as word-reads
-use borrow.Author.Rules.{rules}
-use native.Mathlib.Omega.{arith}
 use mathlib.Core.Path.{sym, ◌∙◌}
 use borrow.Author.Tests.{eq-eqb, ne_eqb}
 use Rattle.segment.specs.Segment.{specification_of}

@@ -1,8 +1,3 @@
-use borrow.Author.Rules.{rules}
-use Rattle.source_name.proofs.name.Reads as reads
-use Rattle.source_name.proofs.name.Lts as lts
-use Rattle.source_name.proofs.name_place.Reads as name-place-reads
-use borrow.Author.Rules.{rules}
 use native.Mathlib.Omega.{arith}
 use mathlib.Core.Path.{sym, ◌∙◌, refl}
 use native.Mathlib.Nat.{add-sub_cancel_left}

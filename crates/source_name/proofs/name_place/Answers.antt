@@ -1,10 +1,3 @@
-use borrow.Author.Rules.{rules}
-use Rattle.source_name.proofs.name_place.Reads as reads
-use Rattle.source_name.proofs.name_place.Lts as lts
-use Rattle.segment.proofs.segment_at.Reads as segment-at-reads
-use Rattle.source_name.proofs.of_part.Reads as of-part-reads
-use borrow.Author.Rules.{rules}
-use native.Mathlib.Omega.{arith}
 use mathlib.Core.Path.{sym, ◌∙◌}
 use Rattle.source_name.specs.SourceName.{name_at}
 use Rattle.source_name.proofs.name_place.Goals as goal

@@ -1,8 +1,3 @@
-use borrow.Author.Rules.{rules}
-use Rattle.source_name.proofs.of_part.Reads as reads
-use Rattle.source_name.proofs.of_part.Lts as lts
-use borrow.Author.Rules.{rules}
-use native.Mathlib.Omega.{arith}
 use Rattle.source_name.proofs.of_part.Goals as goal
 
 pub returns-in-At : goal.returns-in-At

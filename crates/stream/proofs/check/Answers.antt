@@ -1,4 +1,3 @@
-use borrow.Author.Rules.{rules}
 use mathlib.Core.Path.{sym, ◌∙◌}
 use Rattle.stream.proofs.Laws.{check_passed, check_refused}
 use Rattle.stream.proofs.check.Goals as goal

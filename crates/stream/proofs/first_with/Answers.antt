@@ -1,4 +1,3 @@
-use borrow.Author.Rules.{rules}
 use mathlib.Core.Path.{sym, ◌∙◌}
 use Rattle.stream.proofs.Laws.{first_alone}
 use Rattle.stream.proofs.first_with.Goals as goal

@@ -1,14 +1,11 @@
-use borrow.Author.Rules.{rules}
 use native.Mathlib.Omega.{arith}
 use mathlib.Core.Path.{◌≡◌, sym, ◌∙◌, ap}
 use borrow.Author.Tests.{eq-eqb, ne_eqb}
-use Prim.Native.Nat.{◌≤◌, ◌-◌}
 use native.Mathlib.Nat.{add-sub_cancel_left}
-use lib.ListN.{length}
 use Rattle.map_tracks.specs.declared.Types.{Types}
 use Rattle.piece.proofs.Laws.{told}
 use Rattle.stream.specs.Stream.{types_after}
-use Rattle.stream.proofs.Laws.{Left, begin, on_out, on_refused, on_step_refused, on_ended, on_next, next_bounds}
+use Rattle.stream.proofs.Laws.{begin, on_out, on_refused, on_step_refused, on_ended, on_next, next_bounds}
 use Rattle.stream.proofs.one_pass.Goals as goal
 use Rattle.stream.proofs.one_pass.Goals.{then-packet_type, else-packet_type}
 
@@ -36,16 +33,20 @@ take_step-requires c = omega arith
 pub returns-in-Refused-take_step : goal.returns-in-Refused-take_step
 returns-in-Refused-take_step c = let a = c.args in let l = c.loop-at in let x = c.in-Whole.x in
     let t : c.if-packet_type.types.media_types ≡ types_after a.s.now l.at x l.types.media_types =
-    elim c.if-packet_type.branch [ then-packet_type w ↦ rw (eq-eqb _ _ w.if-packet_type.true) (ap (λ (k : Types). k.media_types) w.types-is ∙ rw add-sub_cancel_left at w.types_of-types.ensures)
-    | else-packet_type w ↦ rw (ne_eqb _ _ w.if-packet_type.false) (ap (λ (k : Types). k.media_types) w.types-is) ] in
+    elim c.if-packet_type.branch [
+      | then-packet_type w ↦ rw (eq-eqb _ _ w.if-packet_type.true) (ap (λ (k : Types). k.media_types) w.types-is ∙ rw add-sub_cancel_left at w.types_of-types.ensures)
+      | else-packet_type w ↦ rw (ne_eqb _ _ w.if-packet_type.false) (ap (λ (k : Types). k.media_types) w.types-is)
+    ] in
     let e = sym c.piece_at.ensures ∙ c.in-Whole.is in
     on_step_refused a.s.now a.track a.field l.at l.p l.types.media_types l.first l.invariant.3 c.loop-at-test.true x e c.if-packet_type.types.media_types t _ (sym (rw (c.type_alone-listed.ensures, c.wide-k.ensures) at c.take_step.ensures) ∙ c.in-Refused-take_step.is)
 
 pub returns-in-Ended : goal.returns-in-Ended
 returns-in-Ended c = let a = c.args in let l = c.loop-at in let x = c.in-Whole.x in
     let t : c.if-packet_type.types.media_types ≡ types_after a.s.now l.at x l.types.media_types =
-    elim c.if-packet_type.branch [ then-packet_type w ↦ rw (eq-eqb _ _ w.if-packet_type.true) (ap (λ (k : Types). k.media_types) w.types-is ∙ rw add-sub_cancel_left at w.types_of-types.ensures)
-    | else-packet_type w ↦ rw (ne_eqb _ _ w.if-packet_type.false) (ap (λ (k : Types). k.media_types) w.types-is) ] in
+    elim c.if-packet_type.branch [
+      | then-packet_type w ↦ rw (eq-eqb _ _ w.if-packet_type.true) (ap (λ (k : Types). k.media_types) w.types-is ∙ rw add-sub_cancel_left at w.types_of-types.ensures)
+      | else-packet_type w ↦ rw (ne_eqb _ _ w.if-packet_type.false) (ap (λ (k : Types). k.media_types) w.types-is)
+    ] in
     let e = sym c.piece_at.ensures ∙ c.in-Whole.is in
     rw c.first_with-first.ensures (on_ended a.s.now a.track a.field l.at l.p l.types.media_types l.first l.invariant.3 c.loop-at-test.true x e c.if-packet_type.types.media_types t _ (sym (rw (c.type_alone-listed.ensures, c.wide-k.ensures) at c.take_step.ensures) ∙ c.in-Ended.is))
 
@@ -55,8 +56,10 @@ loop-at-smaller c = let w = told _ _ _ _ (sym c.piece_at.ensures ∙ c.in-Whole.
 pub loop-at-preserved : goal.loop-at-preserved
 loop-at-preserved c = let a = c.args in let l = c.loop-at in let x = c.in-Whole.x in
     let t : c.if-packet_type.types.media_types ≡ types_after a.s.now l.at x l.types.media_types =
-    elim c.if-packet_type.branch [ then-packet_type w ↦ rw (eq-eqb _ _ w.if-packet_type.true) (ap (λ (k : Types). k.media_types) w.types-is ∙ rw add-sub_cancel_left at w.types_of-types.ensures)
-    | else-packet_type w ↦ rw (ne_eqb _ _ w.if-packet_type.false) (ap (λ (k : Types). k.media_types) w.types-is) ] in
+    elim c.if-packet_type.branch [
+      | then-packet_type w ↦ rw (eq-eqb _ _ w.if-packet_type.true) (ap (λ (k : Types). k.media_types) w.types-is ∙ rw add-sub_cancel_left at w.types_of-types.ensures)
+      | else-packet_type w ↦ rw (ne_eqb _ _ w.if-packet_type.false) (ap (λ (k : Types). k.media_types) w.types-is)
+    ] in
     let e = sym c.piece_at.ensures ∙ c.in-Whole.is in
     let f = (sym (rw (c.type_alone-listed.ensures, c.wide-k.ensures) at c.take_step.ensures) ∙ c.in-Next.is) in
     let w = told _ _ _ _ e in

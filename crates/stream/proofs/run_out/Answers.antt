@@ -1,4 +1,3 @@
-use borrow.Author.Rules.{rules}
 use borrow.Author.Tests.{eq-eqb, ne_eqb}
 use Rattle.stream.specs.Stream.{ran_out}
 use Rattle.stream.proofs.run_out.Goals as goal

@@ -1,4 +1,3 @@
-use borrow.Author.Rules.{rules}
 use mathlib.Core.Path.{sym, ◌∙◌}
 use Rattle.stream.proofs.Laws.{seek_passed, seek_refused}
 use Rattle.stream.proofs.seek.Goals as goal

@@ -1,11 +1,7 @@
-use borrow.Author.Rules.{rules}
-use native.Mathlib.Omega.{arith}
 use Prim.Native.Nat.{◌<◌, ◌-◌}
 use lib.ListN.{length, drop}
-use mathlib.Core.Path.{◌≡◌, sym, refl, ◌∙◌}
-use borrow.Author.Tests.{le-ltb, lt-ltb, eq-eqb, ne_eqb}
+use mathlib.Core.Path.{◌≡◌}
 use Rattle.text.specs.Text.{text_ok}
-use Rattle.text.proofs.Laws.{text_empty, text_last, text_turn}
 use Rattle.text.proofs.is_text.Given as goal
 
 abbrev pub invariant-loop-i : goal.invariant-loop-i

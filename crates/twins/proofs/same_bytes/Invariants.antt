@@ -1,7 +1,3 @@
-use Rattle.twins.proofs.same_bytes.Reads as reads
-use Rattle.twins.proofs.same_bytes.Lts as lts
-use borrow.Author.Rules.{rules}
-use native.Mathlib.Omega.{arith}
 use Prim.Native.Nat.{◌≤◌, ◌-◌}
 use Rattle.twins.proofs.same_bytes.Given as goal
 

@@ -1,8 +1,3 @@
-use Rattle.twins.proofs.same_tracks.Reads as reads
-use Rattle.twins.proofs.same_tracks.Lts as lts
-use Rattle.twins.proofs.same_kth.Reads as same-kth-reads
-use borrow.Author.Rules.{rules}
-use native.Mathlib.Omega.{arith}
 use Prim.Native.Nat.{◌≤◌, ◌-◌}
 use Rattle.twins.proofs.same_tracks.Given as goal
 

@@ -1,9 +1,3 @@
-use Rattle.twins.proofs.show_pairs.Reads as reads
-use Rattle.twins.proofs.show_pairs.Lts as lts
-use Rattle.twins.proofs.length_at.Reads as length-at-reads
-use Rattle.twins.proofs.show_pair.Reads as show-pair-reads
-use borrow.Author.Rules.{rules}
-use native.Mathlib.Omega.{arith}
 use Prim.Native.Nat.{◌≤◌, ◌-◌}
 use lib.ListN.{length}
 use Rattle.twins.proofs.show_pairs.Given as goal

@@ -1,9 +1,3 @@
-use borrow.Author.Rules.{rules}
-use Rattle.umf.proofs.count.Reads as reads
-use Rattle.umf.proofs.count.Lts as lts
-use Rattle.number.proofs.le4.Reads as le4-reads
-use borrow.Author.Rules.{rules}
-use native.Mathlib.Omega.{arith}
 use Rattle.umf.specs.Umf.{offset_at, count_of}
 use Rattle.umf.proofs.count.Goals as goal
 

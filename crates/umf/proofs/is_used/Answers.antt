@@ -1,8 +1,3 @@
-use borrow.Author.Rules.{rules}
-use Rattle.umf.proofs.is_used.Reads as reads
-use Rattle.umf.proofs.is_used.Lts as lts
-use borrow.Author.Rules.{rules}
-use native.Mathlib.Omega.{arith}
 use Rattle.umf.specs.Split.{is_counted}
 use Rattle.umf.proofs.is_used.Goals as goal
 

@@ -1,8 +1,3 @@
-use borrow.Author.Rules.{rules}
-use Rattle.umf.proofs.least.Reads as reads
-use Rattle.umf.proofs.least.Lts as lts
-use borrow.Author.Rules.{rules}
-use native.Mathlib.Omega.{arith}
 use Rattle.umf.specs.Split.{least_of}
 use Rattle.umf.proofs.least.Goals as goal
 

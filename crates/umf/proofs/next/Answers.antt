@@ -1,12 +1,4 @@
-use borrow.Author.Rules.{rules}
-use Rattle.umf.proofs.next.Reads as reads
-use Rattle.umf.proofs.next.Lts as lts
-use Rattle.umf.proofs.is_used.Reads as is-used-reads
-use Rattle.umf.proofs.least.Reads as least-reads
-use Rattle.umf.proofs.stated.Reads as stated-reads
-use borrow.Author.Rules.{rules}
 use native.Mathlib.Omega.{arith}
-use Rattle.plate.proofs.Tests.{tests}
 use borrow.Author.Tests.{lt-leb, le-leb}
 use mathlib.Core.Path.{sym, ◌∙◌}
 use lib.ListN.{length}

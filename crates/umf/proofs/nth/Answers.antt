@@ -1,11 +1,3 @@
-use borrow.Author.Rules.{rules}
-use Rattle.umf.proofs.nth.Reads as reads
-use Rattle.umf.proofs.nth.Lts as lts
-use Rattle.umf.proofs.count.Reads as count-reads
-use Rattle.umf.proofs.nth_part.Reads as nth-part-reads
-use Rattle.umf.proofs.offset_at.Reads as offset-at-reads
-use Rattle.umf.proofs.word.Reads as word-reads
-use borrow.Author.Rules.{rules}
 use native.Mathlib.Omega.{arith}
 use mathlib.Core.Path.{◌∙◌}
 use native.Mathlib.Nat.{add-sub_cancel_left}

@@ -1,11 +1,7 @@
 use borrow.Author.Rules.{rules}
-use Rattle.umf.proofs.nth_in.Reads as reads
-use Rattle.umf.proofs.nth_in.Lts as lts
-use Rattle.number.proofs.be4.Reads as be4-reads
-use Rattle.umf.proofs.nth.Reads as nth-reads
 use borrow.Author.Rules.{rules}
 use native.Mathlib.Omega.{arith}
-use mathlib.Core.Path.{sym, ◌∙◌}
+use mathlib.Core.Path.{sym}
 use borrow.Author.Tests.{eq-eqb, ne_eqb}
 use Rattle.umf.proofs.Laws.{good_umf, cut_out, cut_good}
 use Rattle.umf.proofs.nth_in.Goals as goal

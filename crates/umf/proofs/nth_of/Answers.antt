@@ -1,11 +1,3 @@
-use borrow.Author.Rules.{rules}
-use Rattle.umf.proofs.nth_of.Reads as reads
-use Rattle.umf.proofs.nth_of.Lts as lts
-use Rattle.plate.proofs.refuse.Reads as refuse-reads
-use Rattle.umf.proofs.nth_in.Reads as nth-in-reads
-use Rattle.umf.proofs.verdict_of.Reads as verdict-of-reads
-use borrow.Author.Rules.{rules}
-use native.Mathlib.Omega.{arith}
 use mathlib.Core.Path.{sym, ◌∙◌}
 use Rattle.umf.specs.Umf.{place_of}
 use Rattle.umf.proofs.Laws.{placed_at, placed_none}

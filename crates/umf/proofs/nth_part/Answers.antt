@@ -1,10 +1,5 @@
 use borrow.Author.Rules.{rules}
-use Rattle.umf.proofs.nth_part.Reads as reads
-use Rattle.umf.proofs.nth_part.Lts as lts
-use Rattle.umf.proofs.next.Reads as next-reads
-use Rattle.umf.proofs.walk.Reads as walk-reads
 use borrow.Author.Rules.{rules}
-use native.Mathlib.Omega.{arith}
 use mathlib.Core.Path.{sym, ◌∙◌, ap}
 use Rattle.map_items.specs.Find.{part_of}
 use Rattle.umf.proofs.Turns.{rest}

@@ -1,11 +1,3 @@
-use borrow.Author.Rules.{rules}
-use Rattle.umf.proofs.number_of.Reads as reads
-use Rattle.umf.proofs.number_of.Lts as lts
-use Rattle.umf.proofs.count.Reads as count-reads
-use Rattle.umf.proofs.offset_at.Reads as offset-at-reads
-use Rattle.umf.proofs.walk.Reads as walk-reads
-use Rattle.umf.proofs.word.Reads as word-reads
-use borrow.Author.Rules.{rules}
 use native.Mathlib.Omega.{arith}
 use mathlib.Core.Path.{◌∙◌, ap}
 use native.Mathlib.Nat.{add-sub_cancel_left}

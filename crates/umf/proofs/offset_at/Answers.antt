@@ -1,7 +1,3 @@
-use borrow.Author.Rules.{rules}
-use Rattle.umf.proofs.offset_at.Reads as reads
-use Rattle.umf.proofs.offset_at.Lts as lts
-use borrow.Author.Rules.{rules}
 use native.Mathlib.Omega.{arith}
 use Rattle.umf.specs.Umf.{offset_at}
 use Rattle.umf.proofs.offset_at.Goals as goal

@@ -1,10 +1,3 @@
-use borrow.Author.Rules.{rules}
-use Rattle.umf.proofs.payload_verdict.Reads as reads
-use Rattle.umf.proofs.payload_verdict.Lts as lts
-use Rattle.map_items.proofs.refused.Reads as refused-reads
-use Rattle.umf.proofs.sections_verdict.Reads as sections-verdict-reads
-use borrow.Author.Rules.{rules}
-use native.Mathlib.Omega.{arith}
 use Rattle.plate.proofs.Tests.{tests}
 use Rattle.umf.specs.Umf.{payload_verdict}
 use Rattle.umf.proofs.payload_verdict.Goals as goal

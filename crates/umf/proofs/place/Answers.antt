@@ -1,9 +1,3 @@
-use borrow.Author.Rules.{rules}
-use Rattle.umf.proofs.place.Reads as reads
-use Rattle.umf.proofs.place.Lts as lts
-use Rattle.umf.proofs.nth_of.Reads as nth-of-reads
-use Rattle.umf.proofs.umf_at.Reads as umf-at-reads
-use borrow.Author.Rules.{rules}
 use native.Mathlib.Omega.{arith}
 use native.Mathlib.Nat.{add-sub_cancel_left}
 use mathlib.Core.Path.{sym, ◌∙◌}

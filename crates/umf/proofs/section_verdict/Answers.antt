@@ -1,13 +1,5 @@
 use borrow.Author.Rules.{rules}
-use Rattle.umf.proofs.section_verdict.Reads as reads
-use Rattle.umf.proofs.section_verdict.Lts as lts
-use Rattle.map_items.proofs.refused.Reads as refused-reads
-use Rattle.umf.proofs.count.Reads as count-reads
-use Rattle.umf.proofs.offset_at.Reads as offset-at-reads
-use Rattle.umf.proofs.walk.Reads as walk-reads
-use Rattle.umf.proofs.word.Reads as word-reads
 use borrow.Author.Rules.{rules}
-use native.Mathlib.Omega.{arith}
 use mathlib.Core.Path.{◌∙◌}
 use Rattle.umf.proofs.Sections.{on_passed, on_whole, on_stopped, few}
 use Rattle.umf.proofs.section_verdict.Goals as goal

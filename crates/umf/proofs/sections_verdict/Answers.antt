@@ -1,9 +1,3 @@
-use borrow.Author.Rules.{rules}
-use Rattle.umf.proofs.sections_verdict.Reads as reads
-use Rattle.umf.proofs.sections_verdict.Lts as lts
-use Rattle.umf.proofs.section_verdict.Reads as section-verdict-reads
-use borrow.Author.Rules.{rules}
-use native.Mathlib.Omega.{arith}
 use mathlib.Core.Path.{sym, ◌∙◌}
 use Rattle.umf.proofs.sections_verdict.Goals as goal
 

@@ -1,9 +1,3 @@
-use borrow.Author.Rules.{rules}
-use Rattle.umf.proofs.stated.Reads as reads
-use Rattle.umf.proofs.stated.Lts as lts
-use Rattle.number.proofs.le4.Reads as le4-reads
-use Rattle.number.proofs.le_at.Reads as le-at-reads
-use borrow.Author.Rules.{rules}
 use native.Mathlib.Omega.{arith}
 use Rattle.umf.specs.Split.{least_of, stated_of}
 use Rattle.umf.proofs.stated.Goals as goal

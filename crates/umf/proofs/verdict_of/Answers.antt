@@ -1,10 +1,3 @@
-use borrow.Author.Rules.{rules}
-use Rattle.umf.proofs.verdict_of.Reads as reads
-use Rattle.umf.proofs.verdict_of.Lts as lts
-use Rattle.map_items.proofs.refused.Reads as refused-reads
-use Rattle.number.proofs.be4.Reads as be4-reads
-use Rattle.umf.proofs.payload_verdict.Reads as payload-verdict-reads
-use borrow.Author.Rules.{rules}
 use native.Mathlib.Omega.{arith}
 use mathlib.Core.Path.{◌∙◌}
 use native.Mathlib.Nat.{add-sub_cancel_left}

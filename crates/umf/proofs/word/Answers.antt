@@ -1,11 +1,5 @@
-use borrow.Author.Rules.{rules}
-use Rattle.umf.proofs.word.Reads as reads
-use Rattle.umf.proofs.word.Lts as lts
-use Rattle.number.proofs.le4.Reads as le4-reads
-use borrow.Author.Rules.{rules}
 use native.Mathlib.Omega.{arith}
 use Rattle.number.proofs.Laws.{le_lt}
-use Prim.Native.Nat.{◌^◌}
 use Rattle.umf.proofs.word.Goals as goal
 
 pub returns : goal.returns

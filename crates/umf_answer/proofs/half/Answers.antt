@@ -1,10 +1,5 @@
 use borrow.Author.Rules.{rules}
-use Rattle.umf_answer.proofs.half.Reads as reads
-use Rattle.umf_answer.proofs.half.Lts as lts
-use Rattle.number.proofs.le_at.Reads as le-at-reads
 use borrow.Author.Rules.{rules}
-use native.Mathlib.Omega.{arith}
-use Prim.Native.Nat.{◌^◌}
 use Rattle.number.proofs.Laws.{le_lt}
 use Rattle.umf_answer.proofs.half.Goals as goal
 

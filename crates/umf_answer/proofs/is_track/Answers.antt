@@ -1,8 +1,3 @@
-use borrow.Author.Rules.{rules}
-use Rattle.umf_answer.proofs.is_track.Reads as reads
-use Rattle.umf_answer.proofs.is_track.Lts as lts
-use Rattle.umf_answer.proofs.is_letter.Reads as is-letter-reads
-use borrow.Author.Rules.{rules}
 use native.Mathlib.Omega.{arith}
 use mathlib.Core.Path.{sym, ◌∙◌}
 use Prim.Native.Nat.{ℕ, ◌/◌, ◌%◌, ◌<◌}
@@ -10,7 +5,7 @@ use mathlib.Core.Path.{◌≡◌}
 use mathlib.Core.Bool.{true, false}
 use Rattle.map_items.specs.Judge.{has}
 use borrow.Author.Tests.{le-leb, lt-leb, eq-eqb, ne_eqb}
-use Rattle.plate.proofs.Tests.{on, off, no_choice}
+use Rattle.plate.proofs.Tests.{no_choice}
 use Rattle.umf_answer.specs.Says.{letters, is_track}
 use Rattle.umf_answer.proofs.is_track.Goals as goal
 

@@ -1,10 +1,3 @@
-use borrow.Author.Rules.{rules}
-use Rattle.umf_answer.proofs.judged.Reads as reads
-use Rattle.umf_answer.proofs.judged.Lts as lts
-use Rattle.umf.proofs.verdict_of.Reads as verdict-of-reads
-use Rattle.umf_answer.proofs.says.Reads as says-reads
-use borrow.Author.Rules.{rules}
-use native.Mathlib.Omega.{arith}
 use mathlib.Core.Path.{sym, ◌∙◌}
 use Rattle.umf_answer.proofs.judged.Goals as goal
 

@@ -1,11 +1,3 @@
-use borrow.Author.Rules.{rules}
-use Rattle.umf_answer.proofs.material_says.Reads as reads
-use Rattle.umf_answer.proofs.material_says.Lts as lts
-use Rattle.umf_answer.proofs.half.Reads as half-reads
-use Rattle.umf_answer.proofs.time.Reads as time-reads
-use Rattle.umf_answer.proofs.word.Reads as word-reads
-use borrow.Author.Rules.{rules}
-use native.Mathlib.Omega.{arith}
 use Rattle.umf_answer.specs.Says.{material_says}
 use Rattle.umf_answer.proofs.material_says.Goals as goal
 

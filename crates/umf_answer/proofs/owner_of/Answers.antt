@@ -1,9 +1,3 @@
-use borrow.Author.Rules.{rules}
-use Rattle.umf_answer.proofs.owner_of.Reads as reads
-use Rattle.umf_answer.proofs.owner_of.Lts as lts
-use Rattle.umf_answer.proofs.is_track.Reads as is-track-reads
-use borrow.Author.Rules.{rules}
-use native.Mathlib.Omega.{arith}
 use mathlib.Core.Path.{sym, ◌∙◌}
 use borrow.Author.Tests.{eq-eqb, ne_eqb}
 use Rattle.umf_answer.specs.Says.{owner_of}

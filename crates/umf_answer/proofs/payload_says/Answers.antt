@@ -1,10 +1,3 @@
-use borrow.Author.Rules.{rules}
-use Rattle.umf_answer.proofs.payload_says.Reads as reads
-use Rattle.umf_answer.proofs.payload_says.Lts as lts
-use Rattle.umf_answer.proofs.shown_if.Reads as shown-if-reads
-use Rattle.umf_answer.proofs.word.Reads as word-reads
-use borrow.Author.Rules.{rules}
-use native.Mathlib.Omega.{arith}
 use Rattle.umf_answer.specs.Says.{payload_says}
 use Rattle.umf_answer.proofs.payload_says.Goals as goal
 

@@ -1,11 +1,5 @@
 use borrow.Author.Rules.{rules}
-use Rattle.umf_answer.proofs.preamble_says.Reads as reads
-use Rattle.umf_answer.proofs.preamble_says.Lts as lts
-use Rattle.number.proofs.be4.Reads as be4-reads
-use Rattle.umf_answer.proofs.shown_if.Reads as shown-if-reads
 use borrow.Author.Rules.{rules}
-use native.Mathlib.Omega.{arith}
-use Rattle.plate.proofs.Tests.{tests}
 use Rattle.number.proofs.Laws.{be_lt}
 use Rattle.umf_answer.specs.Says.{preamble_of}
 use Rattle.umf_answer.proofs.preamble_says.Goals as goal

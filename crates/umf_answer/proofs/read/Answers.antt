@@ -1,9 +1,3 @@
-use borrow.Author.Rules.{rules}
-use Rattle.umf_answer.proofs.read.Reads as reads
-use Rattle.umf_answer.proofs.read.Lts as lts
-use Rattle.packet.proofs.of_type.Reads as of-type-reads
-use Rattle.umf_answer.proofs.judged.Reads as judged-reads
-use borrow.Author.Rules.{rules}
 use native.Mathlib.Omega.{arith}
 use native.Mathlib.Nat.{add-sub_cancel_left}
 use mathlib.Core.Path.{sym, ◌∙◌}

@@ -1,14 +1,7 @@
 use borrow.Author.Rules.{rules}
-use Rattle.umf_answer.proofs.says.Reads as reads
-use Rattle.umf_answer.proofs.says.Lts as lts
-use Rattle.number.proofs.be4.Reads as be4-reads
-use Rattle.umf.proofs.number_of.Reads as number-of-reads
-use Rattle.umf_answer.proofs.material_says.Reads as material-says-reads
-use Rattle.umf_answer.proofs.payload_says.Reads as payload-says-reads
-use Rattle.umf_answer.proofs.preamble_says.Reads as preamble-says-reads
 use borrow.Author.Rules.{rules}
 use native.Mathlib.Omega.{arith}
-use mathlib.Core.Path.{sym, ◌∙◌}
+use mathlib.Core.Path.{sym}
 use borrow.Author.Tests.{eq-eqb, ne_eqb}
 use Rattle.number.proofs.Laws.{be_lt}
 use Rattle.umf.proofs.Laws.{good_umf, cut_out, cut_good}

@@ -1,13 +1,8 @@
 use borrow.Author.Rules.{rules}
-use Rattle.umf_answer.proofs.track.Reads as reads
-use Rattle.umf_answer.proofs.track.Lts as lts
-use Rattle.umf.proofs.place.Reads as place-reads
-use Rattle.umf_answer.proofs.track_says.Reads as track-says-reads
 use borrow.Author.Rules.{rules}
 use native.Mathlib.Omega.{arith}
 use native.Mathlib.Nat.{add-sub_cancel_left}
-use mathlib.Core.Path.{refl, sym, ◌∙◌, ap}
-use Rattle.plate.specs.declared.Refusal.{Refusal}
+use mathlib.Core.Path.{refl, sym, ◌∙◌}
 use Rattle.umf.specs.Split.{least_of}
 use Rattle.umf.proofs.Stands.{stands, refused_by}
 use Rattle.umf_answer.specs.Says.{track_in, track_at}

@@ -1,9 +1,5 @@
 use borrow.Author.Rules.{rules}
-use Rattle.umf_answer.proofs.word.Reads as reads
-use Rattle.umf_answer.proofs.word.Lts as lts
-use Rattle.number.proofs.le4.Reads as le4-reads
 use borrow.Author.Rules.{rules}
-use native.Mathlib.Omega.{arith}
 use Rattle.number.proofs.Laws.{le_lt}
 use Rattle.umf_answer.proofs.word.Goals as goal
 

@@ -1,4 +1,3 @@
-use borrow.Author.Rules.{rules}
 use borrow.Author.Tests.{lt-ltb, le-ltb}
 use Rattle.walker.specs.Inside.{turns_of}
 use Rattle.walker.proofs.turns.Goals as goal

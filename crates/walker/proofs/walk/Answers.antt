@@ -1,4 +1,3 @@
-use borrow.Author.Rules.{rules}
 use mathlib.Core.Path.{◌∙◌}
 use Rattle.walker.specs.Walk.{walk_of}
 use Rattle.walker.proofs.Laws.{enough_turns}
