@@ -1,13 +1,13 @@
 #!/usr/bin/env python3
 # promises.py [TREE]: the public functions of the libraries that lack a promise, and the must-fail edits that docs/PROMISES.md does not name as they are.
-# A public function has an `ensures`, a theorem `NAME-once` that any two outcomes of its own contract are equal, and a row in docs/PROMISES.md,
+# A public function has an `ensures`, a theorem `NAME_once` that any two outcomes of its own contract are equal, and a row in docs/PROMISES.md,
 # which also justifies each `requires`. It prints a line for each that lacks one and ends with 1; without any it prints how many functions it saw.
 # Four parts: the functions (src/), the theorems (proofs/), the page (docs/), and what is held against what.
 import os, re, sys
 from dataclasses import dataclass
 
-# These are proved by hand and have no `Reads.Post`: their contract is one definition of the crate's own specs/, and their theorem is over its name.
-BY_HAND = {"walker::make": "Made", "walker::step": "Stepped", "map_records::fill": "Filled"}
+# The contract of these is one definition of the crate's own specs/, of all that they are given and leave, and their theorem is over its name.
+BY_NAME = {"walker::make": "Made", "walker::step": "Stepped", "map_records::fill": "Filled"}
 
 # ---- The functions: .rt ----
 
@@ -15,10 +15,11 @@ RT_TOKEN = re.compile(
     r"""(?P<passed> \s+ | //[^\n]* | /\*.*?\*/ )
       | b?"(?:\\.|[^"\\])*"          # a string, of bytes or not
       | b?'(?:\\.|[^'\\])'           # a character; a lifetime has no second quote
-      | \w+ | -> | :: | .""",
+      | \w+(?:\.\w+)* | -> | :: | .  # a name with its fields, as `s.now`, is one token""",
     re.X | re.S,
 )
 CLOSED_BY = {"(": ")", "[": "]", "{": "}"}
+CLAUSES = ("ghost", "requires", "ensures")
 
 
 @dataclass
@@ -26,7 +27,7 @@ class Function:
     name: str  # its path in the crate: `f`, `module::f`, `Type::f`
     parameters: list  # of (name, type's tokens)
     result: list  # the type's tokens; none for ()
-    requires: list  # the clauses' tokens
+    requires: list  # the clauses' tokens, without their names
     ensures: list
     names: dict = None  # what an imported name of a clause stands for
 
@@ -84,15 +85,17 @@ def function_at(tokens, i, within):
     end = end_of(tokens, i)
     f = Function(name, parameters_of(tokens[i + 1 : end - 1]), [], [], [])
     i = end
-    if tokens[i : i + 1] == ["->"]:
-        i += 1
-        while i < len(tokens) and tokens[i] not in ("requires", "ensures", "{", ";"):
-            end = end_of(tokens, i) if tokens[i] in CLOSED_BY else i + 1
-            f.result += tokens[i:end]
-            i = end
-    while i < len(tokens) and tokens[i] in ("requires", "ensures"):
-        end = end_of(tokens, i + 1)
-        getattr(f, tokens[i]).append(tokens[i + 2 : end - 1])
+    answers = tokens[i : i + 1] == ["->"]
+    while i < len(tokens) and tokens[i] not in CLAUSES + ("{", ";"):
+        end = end_of(tokens, i) if tokens[i] in CLOSED_BY else i + 1
+        f.result += tokens[i:end] if answers and tokens[i] != "->" else []
+        i = end
+    while i < len(tokens) and tokens[i] in CLAUSES:
+        # a clause may have a name, and a star behind its word
+        opened = next(k for k in range(i, len(tokens)) if tokens[k] in ("{", ";"))
+        end = end_of(tokens, opened)
+        if tokens[i] != "ghost":
+            getattr(f, tokens[i]).append(tokens[opened + 1 : end - 1])
         i = end
     if f.result == ["(", ")"]:
         f.result = []
@@ -150,36 +153,46 @@ class Theorem:
     declared: bool  # its file is one that the checker is told of
 
 
+# The equality that std hands on is this one.
+EQUAL = "mathlib.Core.Path.◌≡◌"
+HANDED_ON = {f"Rattle.{crate}.{module}.◌≡◌": EQUAL for crate, module in (("core", "specs.Prelude"), ("std", "specs.Prelude"), ("std", "proofs.Common"))}
+USE = re.compile(r"^[ \t]*(?:pub |ghost )?use ([^\s;{}]+?)(?:\.\{([^}]*)\}| as ([^\s;]+))?(?=[\s;]|\Z)", re.M)
+
+
 def antt_tokens(text):
-    return re.findall(r"[()]|[^\s()]+", text)
+    # `(f x).Denot` is a field of what stands in brackets, `«x»` is x
+    return re.findall(r"\)(?:\.[^\s().]+)*|\(|[^\s()]+", re.sub("[«»]", "", text))
 
 
 def imports_of(text):
     # what a name of the file stands for; also of .rt, for its clauses
     names = {}
-    for path, name in re.findall(r"^(?:ghost )?use (\S+) as ([^\s;]+)", text, re.M):
-        names[name] = path
-    for path, listed in re.findall(r"^(?:ghost )?use (\S+)\.\{([^}]*)\}", text, re.M):
-        for name in listed.split(","):
-            names[name.strip()] = f"{path}.{name.strip()}"
+    for path, listed, alias in USE.findall(text):
+        found = [] if listed else [(alias or path.rpartition(".")[2], path)]
+        for item in filter(None, (i.strip() for i in listed.split(","))):
+            name, _, alias = item.partition(" as ")
+            found.append((alias or name, f"{path}.{name}"))
+        for name, whole in found:  # one that stands for two things stands for neither
+            names[name] = whole if names.get(name, whole) == whole else f"{names[name]} or {whole}"
     return names
 
 
 def in_full(token, names):
     head, dot, rest = token.partition(".")
-    return names.get(f"_{token}_") or names.get(head, head) + dot + rest
+    whole = names.get(f"◌{token}◌") or names.get(head, head) + dot + rest
+    return HANDED_ON.get(whole, whole)
 
 
 def theorems_of(crate_folder):
-    # by name, the theorems NAME-once of the crate's own files
+    # by name, the theorems NAME_once of the crate's own files
     proofs, found = f"{crate_folder}/proofs", {}
     for path in files_below(proofs, ".antt"):
-        text = re.sub(r"(^|\s)--[^\n]*", r"\1", read(path))
+        text = re.sub(r"(^|\s)--[^\n]*", r"\1", re.sub(r"\{-.*?-\}", " ", read(path), flags=re.S))
         names = imports_of(text)
         node = f"{proofs}/Lib.antt" if os.path.dirname(path) == proofs else f"{os.path.dirname(path)}.antt"
         own = os.path.basename(path)[:-5]
         declared = os.path.exists(node) and re.search(rf"^(pub )?mod {re.escape(own)}\s*$", read(node), re.M) is not None
-        for name, statement in re.findall(r"^pub (\S+-once) :(.*?)(?=^\S|\Z)", text, re.M | re.S):
+        for name, statement in re.findall(r"^pub (\S+_once) :(.*?)(?=^\S|\Z)", text, re.M | re.S):
             found[name] = Theorem([in_full(t, names) for t in antt_tokens(statement)], declared)
     return found
 
@@ -244,24 +257,23 @@ def edits_of(crate_folder):
 
 # ---- What is held against what ----
 
-SPELLED = """(κs : contract.Lifetimes.Lfts {n}) (a : borrow.Fn.Kinds.Dens κs {kinds}.ps) (x y : borrow.Fn.Kinds.resT {kinds}.r κs .Denot)
-    (s t : denote.Triple.Clauses.AtExit (borrow.Fn.Kinds.endedOf {n} {kinds}.ps {kinds}.r) κs) → {reads}.Post κs a x s → {reads}.Post κs a y t → {equal}"""
+SPELLED = """(κs : contract.Lifetimes.Lfts {n}) (a : borrow.Fn.Kinds.Dens κs {kinds}.ps) (x y : (borrow.Fn.Kinds.res_t {kinds}.r κs).Denot)
+    (s t : denote.Triple.Clauses.AtExit (borrow.Fn.Kinds.ended_of {n} {kinds}.ps {kinds}.r) κs) → {reads}.Post κs a x s → {reads}.Post κs a y t → {equal}"""
 
 
 def all_equal(pairs):
-    equations = [f"{one} mathlib.Core.Path._≡_ {other}" for one, other in pairs]
+    equations = [f"{one} {EQUAL} {other}" for one, other in pairs]
     return equations[0] if len(equations) == 1 else " × ".join(f"({e})" for e in equations)
 
 
 def wanted(crate, f, n):
     # the statement that any two outcomes of the function's own contract are equal: its answer, or the part that it hands back, and all that it may write to
-    own = f"Rattle·{crate}·proofs.proofs.{f.name.replace('::', '.')}"
-    part = [("x .now", "y .now"), ("denote.Ref.ptr x", "denote.Ref.ptr y")]
+    own = f"Rattle.{crate}.proofs.{f.name.replace('::', '.')}"
+    part = [("x.now", "y.now"), ("x.ref_ptr", "y.ref_ptr")]
     pairs = [] if not f.result else part if f.result[0] == "&" else [("x", "y")]
-    pairs += [(f"s .{i} .now", f"t .{i} .now") for i in range(len(f.changed()))]
+    pairs += [(f"s.{i}.now", f"t.{i}.now") for i in range(len(f.changed()))]
     if pairs in ([], [("x", "y")]):
-        plate = "Rattle·plate·proofs.proofs" if crate == "plate" else "Rattle·plate.proofs"
-        return antt_tokens(f"{plate}.Outcome.OneAnswer {n} {own}.Kinds.ps {own}.Kinds.r {own}.Reads.Post")
+        return antt_tokens(f"Rattle.plate.proofs.Outcome.OneAnswer {n} {own}.Kinds.ps {own}.Kinds.r {own}.Reads.Post")
     return antt_tokens(SPELLED.format(n=n, kinds=f"{own}.Kinds", reads=f"{own}.Reads", equal=all_equal(pairs)))
 
 
@@ -274,16 +286,12 @@ def is_own(crate, f, statement):
 def arguments_of(f, contract):
     # how many arguments the contract has, those that come in first, if the `ensures` is just its name with every parameter as the call meets it,
     # the answer, and all that may be written to as the call leaves it
-    if len(f.ensures) != 1 or f.ensures[0][:1] != ["λ"]:
+    if len(f.ensures) != 1 or f.ensures[0][:1] != [contract]:
         return None
-    answer, said = f.ensures[0][1], " ".join(f.ensures[0])
-    held = re.fullmatch(rf"λ {answer} \. ⌜ {contract} (.*) ⌝", said)
-    if held is None:
-        return None
-    found = re.findall(r"\( now \( \w+ \. \w+ \) \)|\( \w+ \. \w+ \)|\S+", held.group(1))
-    entries = [[f"( {n} . entry )", f"( now ( {n} . entry ) )"] if kind[:1] == ["&"] else [n] for n, kind in f.parameters]
-    exits = [[f"( now ( {n} . exit ) )"] for n in f.changed()]
-    asked = entries + ([[answer]] if f.result else []) + exits
+    found = f.ensures[0][1:]
+    entries = [[f"{n}.entry", f"{n}.old" if n in f.changed() else f"{n}.now"] if kind[:1] == ["&"] else [n] for n, kind in f.parameters]
+    exits = [[f"{n}.new"] for n in f.changed()]
+    asked = entries + ([["result"]] if f.result else []) + exits
     whole = len(found) == len(asked) and all(a in forms for a, forms in zip(found, asked))
     return (len(entries), len(asked)) if whole else None
 
@@ -296,7 +304,7 @@ def is_over_name(crate, f, contract, statement):
     inputs, all_of_them = arguments_of(f, contract)
     own = f.names.get(contract, "")
     held = re.fullmatch(rf"((?:{BINDER})+)→ {re.escape(own)} ([^→]*) → {re.escape(own)} ([^→]*) → ([^→]*)", " ".join(statement))
-    if held is None or not own.startswith(f"Rattle·{crate}·specs.specs."):
+    if held is None or not own.startswith(f"Rattle.{crate}.specs."):
         return False
     given, one, two, equal = held.group(1), held.group(2).split(), held.group(3).split(), held.group(4)
     bound = [name for group in re.findall(r"\( ([^:()]*) :", given) for name in group.split()]
@@ -320,8 +328,8 @@ def files_below(folder, ending):
 
 
 def faults_of_function(crate, f, theorems, page):
-    full, once = f"{crate}::{f.name}", f.name.replace("::", "-").replace("_", "-") + "-once"
-    theorem, contract = theorems.get(once), BY_HAND.get(full)
+    full, once = f"{crate}::{f.name}", f.name.replace("::", "_") + "_once"
+    theorem, contract = theorems.get(once), BY_NAME.get(full)
     if not f.ensures:
         yield "no ensures"
     if theorem is None:
@@ -344,7 +352,7 @@ def faults_of_function(crate, f, theorems, page):
 def judge(top):
     # the faults of a tree, and what to say if it has none
     page = page_of(read(f"{top}/docs/PROMISES.md"))
-    crates = [l.split(":")[0] for l in read(f"{top}/crates.txt").split("\n") if ":" in l and not l.startswith("#")]
+    crates = re.findall(r"^[ \t]*(\w+)[^#:\n]*:", read(f"{top}/crates.txt"), re.M)  # a name, or NAME staticlib
     faults, seen, asking, edits, defining = [], set(), set(), set(), set()
     for crate in crates:
         folder = f"{top}/crates/{crate}"
