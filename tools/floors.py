@@ -15,13 +15,14 @@ def read():
         if line.startswith("# -- "):
             floors.append((line[5:].strip(), []))
             continue
-        name, colon, rest = line.split("#")[0].partition(":")
+        words, colon, rest = line.split("#")[0].partition(":")
         if not colon:
             continue
+        name = words.split()[0]  # of a static library `staticlib` stands behind it
         if not floors:
-            sys.exit(f"crates.txt: {name.strip()} stands before the first floor")
-        floors[-1][1].append(name.strip())
-        on[name.strip()] = rest.split()
+            sys.exit(f"crates.txt: {name} stands before the first floor")
+        floors[-1][1].append(name)
+        on[name] = rest.split()
     # the kit's libraries are no crates of ours
     return floors, {name: [d for d in rest if d in on] for name, rest in on.items()}
 

@@ -1,16 +1,24 @@
 #!/usr/bin/env python3
 """reach.py: which definitions of specs/ the public contracts reach, which the pages of `promises` add, and which serve code, counting or proofs alone.
 Without words it prints them by crate, with their lines. With --check it fails where a definition that nobody reaches stands outside of specs/Inside.antt,
-where one that is reached stands inside, and where docs/READING.md does not name a file that has a reached definition. It reads text, and proves nothing."""
+where one that is reached stands inside, and where docs/READING.md does not name a file that has a reached definition. A file of statements that docs/READING.md
+says to wait for its page counts as a page, as long as a page or a contract does not reach all of it. It reads text, and proves nothing."""
 import os, re, sys
 
 TOP = os.path.join(os.path.dirname(os.path.abspath(__file__)), "..")
 PAGES = "promises"
+WAITING = "wait for their page in `promises`:"  # behind it `CRATE/specs/FILE, FILE; CRATE/specs/FILE` up to a full stop
 WORD = r"[^\s(){}\[\],;.λ⌜⌝\"]+"
 
 
+def read(path):
+    # `«x»` is x
+    return re.sub("[«»]", "", open(path, encoding="utf-8").read())
+
+
 def crates():
-    return [l.split(":")[0] for l in open(f"{TOP}/crates.txt", encoding="utf-8") if ":" in l and not l.startswith("#")]
+    # a line begins NAME: or NAME staticlib:
+    return re.findall(r"^[ \t]*(\w+)[^#:\n]*:", read(f"{TOP}/crates.txt"), re.M)
 
 
 class Module:
@@ -22,7 +30,7 @@ class Module:
         bring_in(self, text)
         current = None
         for line in text.split("\n"):
-            if line.startswith("use ") or line.startswith("--") or not line.strip():
+            if re.match(r"(?:pub )?use |unfolding |--", line) or not line.strip():
                 continue
             if not line[0].isspace():
                 m = re.match(r"(?:unfoldable |abbrev )?(?:pub )?(?:record|data) (\S+)", line) or re.match(r"(?:unfoldable |abbrev )?(?:pub )?(\S+) :", line)
@@ -50,7 +58,7 @@ def words(text):
 
 
 def bring_in(host, text):
-    for m in re.finditer(r"^(?:ghost )?use Rattle·(\w+?)(?:·specs)?\.specs\.(\w+)(?:\.\{([^}]*)\}| as (\S+?));?$", text, re.M):
+    for m in re.finditer(r"^ *(?:pub |ghost )?use Rattle\.(\w+)\.specs\.(\w+)(?:\.\{([^}]*)\}| as (\S+?));?$", text, re.M):
         crate, module, names, alias = m.groups()
         if module == "declared":
             continue
@@ -65,20 +73,48 @@ def bring_in(host, text):
 def targets(host, used, modules):
     found = set()
     for w in used:
-        if w in host.names:
-            found.add(host.names[w])
-        elif "." in w and w.split(".")[0] in host.whole:
-            found.add(host.whole[w.split(".")[0]] + (w.split(".", 1)[1],))
-        elif isinstance(host, Module) and (w in host.items or "." + w in host.items):
-            found.add((host.crate, host.name, w))
+        # `m.f.x`: f of the module m, and a field x of it; else a name and its fields
+        parts = w.split(".")
+        if parts[0] == "Rattle" and parts[2:3] == ["specs"] and len(parts) > 4:  # by its whole path
+            found.add((parts[1], parts[3], parts[4]))
+            parts = parts[5:]
+        elif len(parts) > 1 and parts[0] in host.whole:
+            found.add(host.whole[parts[0]] + (parts[1],))
+            parts = parts[2:]
+        for n in parts:
+            if n in host.names:
+                found.add(host.names[n])
+            elif isinstance(host, Module) and (n in host.items or "." + n in host.items):
+                found.add((host.crate, host.name, n))
     return {(c, m, n) for c, m, n in found if (c, m) in modules}
 
 
 def public_contracts(text):
-    # what stands between ensures { .. } of a public function, and its requires; and of `named` and `tied`, which hold the public constants
-    for m in re.finditer(r'^ *(?:pub (?:extern "C" )?fn \w+|fn (?:named|tied)\b).*?^ *\{$', text, re.M | re.S):
-        for c in re.finditer(r"(?:ensures|requires) \{(.*?⌝) \}", m.group(0), re.S):
-            yield c.group(1)
+    # what stands in the clauses of a public function, before its body; and of `named` and `tied`, which hold the public constants
+    text = re.sub(r"//[^\n]*", "", text)
+    for m in re.finditer(r'^ *(?:pub (?:const |unsafe |extern "C" )*fn \w+|fn (?:named|tied)\b)', text, re.M):
+        at = m.end()
+        while True:
+            clause = OPENED.search(text, at)
+            if not clause or not clause[1]:
+                break
+            at = behind(text, clause.end() - 1)
+            if clause[1] != "ghost":
+                yield text[clause.end() : at - 1]
+
+
+# a clause's word with its name, if it has one, and the bracket behind it; or the bracket of a body
+OPENED = re.compile(r"(?:\b(ghost|requires|ensures)\b\*?(?:\s+\w+)?\s*:?\s*)?\{")
+
+
+def behind(text, i):
+    # the place behind the group that opens at i
+    depth = 0
+    for k in range(i, len(text)):
+        depth += (text[k] == "{") - (text[k] == "}")
+        if depth == 0:
+            return k + 1
+    return len(text)
 
 
 class Source:
@@ -87,17 +123,22 @@ class Source:
         bring_in(self, text)
 
 
+def waiting_files(reading):
+    listed = re.split(r"\.\s", reading.split(WAITING, 1)[1], maxsplit=1)[0] if WAITING in reading else ""
+    return [(crate, name) for crate, names in re.findall(r"(\w+)/specs/([\w, ]+)", listed) for name in re.findall(r"\w+", names)]
+
+
 def load():
     modules, roots, pages = {}, set(), set()
     for crate in crates():
         folder = f"{TOP}/crates/{crate}/specs"
         for f in sorted(os.listdir(folder)) if os.path.isdir(folder) else []:
             if f.endswith(".antt") and f != "Lib.antt":
-                modules[crate, f[:-5]] = Module(crate, f[:-5], open(f"{folder}/{f}", encoding="utf-8").read())
+                modules[crate, f[:-5]] = Module(crate, f[:-5], re.sub(r"\{-.*?-\}", "", read(f"{folder}/{f}"), flags=re.S))
     for crate in crates():
         path = f"{TOP}/crates/{crate}/src/lib.rt"
         if os.path.exists(path):
-            text = open(path, encoding="utf-8").read()
+            text = read(path)
             source = Source(text)
             for contract in public_contracts(text):
                 roots |= targets(source, words(contract), modules)
@@ -123,10 +164,16 @@ def reached(modules, start):
 
 def main():
     modules, roots, pages = load()
-    by_contract = reached(modules, roots)
-    by_page = reached(modules, roots | pages) - by_contract
     wrong = []
-    reading = open(f"{TOP}/docs/READING.md", encoding="utf-8").read()
+    reading = read(f"{TOP}/docs/READING.md")
+    by_contract = reached(modules, roots)
+    held = reached(modules, roots | pages)
+    for file in waiting_files(reading):
+        own = {(*file, n) for n in modules[file].items if not n.startswith(".")} if file in modules else set()
+        if own <= held:
+            wrong.append(f"docs/READING.md says that {file[0]}/specs/{file[1]} waits for its page, and {'its page is there' if own else 'there is no such file'}")
+        pages |= own
+    by_page = reached(modules, roots | pages) - by_contract
     total = [0, 0, 0]
     for (crate, name), m in modules.items():
         groups = [[], [], []]

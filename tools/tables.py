@@ -1,13 +1,12 @@
 #!/usr/bin/env python3
-"""tables.py [--check] [--log FILE]: writes the tables that say what the crates' files say, between their marks.
+"""tables.py [--check]: writes the tables that say what the crates' files say, between their marks.
 docs/PROMISES.md: from the edits' first lines the last two columns of the public functions, and the lists of definition edits and of theorem edits.
-docs/PROVING.md: the lines, seconds and edits of each crate. The seconds are FILE's, the output of `rt ci` or the folder target/log; without it they stay as they are.
+docs/PROVING.md: the lines, seconds and edits of each crate. The seconds are those of the older toolchain, whose `rt ci` printed them: they stay as they are, and a crate that came since has none.
 It prints a line for each edit and row that is out of form, and ends with 1 if there is one. With --check it writes nothing, and prints what it would write otherwise, but for the seconds."""
 import argparse, collections, os, re, sys, textwrap
 
 parser = argparse.ArgumentParser(description=__doc__, formatter_class=argparse.RawDescriptionHelpFormatter)
 parser.add_argument("--check", action="store_true")
-parser.add_argument("--log", metavar="FILE")
 options = parser.parse_args()
 top = os.path.join(os.path.dirname(os.path.abspath(__file__)), "..")
 wrong = []
@@ -24,9 +23,9 @@ def files(folder, end):
     return [open(f"{d}/{f}", encoding="utf-8").read() for d, _, fs in os.walk(folder) for f in fs if f.endswith(end)]
 
 
-crates = [line.split(":")[0] for line in read("crates.txt").split("\n") if ":" in line and not line.startswith("#")]
+crates = re.findall(r"^[ \t]*(\w+)[^#:\n]*:", read("crates.txt"), re.M)  # a line begins NAME: or NAME staticlib:
 # the public functions of each crate; a program has none
-functions = {c: set(re.findall(r'^pub (?:extern "C" )?fn (\w+)', "".join(files(f"{top}/crates/{c}/src", "lib.rt")), re.M)) for c in crates}
+functions = {c: set(re.findall(r'^pub (?:const |unsafe |extern "C" )*fn (\w+)', "".join(files(f"{top}/crates/{c}/src", "lib.rt")), re.M)) for c in crates}
 
 
 def is_declared(crate, name):
@@ -122,12 +121,9 @@ def count(folder, end):
 
 def table_of_lines(old):
     seconds = {c: n.replace(",", "") for c, n in re.findall(r"^\| (\w+) \|(?:[^|]*\|){3} ([\d,]+) \|", old, re.M)}
-    if options.log:
-        told = "\n".join(files(options.log, ".out")) if os.path.isdir(options.log) else open(options.log, encoding="utf-8").read()
-        seconds.update(re.findall(r"^rt: (\w+) proved \((\d+) s\)", told, re.M))
     rows = [(c, count(f"{c}/src", ".rt"), count(f"{c}/specs", ".antt"), count(f"{c}/proofs", ".antt"), int(seconds.get(c, 0)), sum(e.crate == c for e in edits)) for c in crates]
     rows.append((f"all {len(crates)}", *(sum(r[i] for r in rows) for i in range(1, 6))))
-    lines = ["| Crate | Code | Definitions | Proofs | Check, s | Edits |", "|---|---|---|---|---|---|"]
+    lines = ["| Crate | Code | Definitions | Proofs | Check, s, older toolchain | Edits |", "|---|---|---|---|---|---|"]
     return "\n".join(lines + [f"| {r[0]} | {' | '.join(f'{n:,}' if n else '' for n in r[1:])} |" for r in rows])
 
 
