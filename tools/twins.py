@@ -205,18 +205,18 @@ def full():
 
 HEAD = """-- Maps and twins that were made outside (tools/twins.py): the twin is what `strike` leaves of the map, to the byte. Computed by the checker.
 use Prim.Native.Nat.{ℕ}
-use mathlib.Core.Path.{_≡_, refl}
-use mathlib.Core.List.{List, [], _∷_}
-use Rattle·number.specs.Number.{be, beBytes}
-use Rattle·media_type.specs.MediaType.{knownType}
-use Rattle·map_items.specs.Items as items
-use Rattle·map_items.specs.Judge as judge
-use Rattle·map_answer.specs.Answer as answer
-use Rattle·map_tracks.specs.Tracks as tracks
-use Rattle·map.specs.Map as map
-use Rattle·map.specs.Encode as encode
-use Rattle·map.specs.Parts as said
-use Rattle·map_newer·specs.specs.Strike as strike
+use mathlib.Core.Path.{◌≡◌, refl}
+use mathlib.Core.List.{List, [], ◌∷◌}
+use Rattle.number.specs.Number.{be, be_bytes}
+use Rattle.media_type.specs.MediaType.{known_type}
+use Rattle.map_items.specs.Items as items
+use Rattle.map_items.specs.Judge as judge
+use Rattle.map_answer.specs.Answer as answer
+use Rattle.map_tracks.specs.Tracks as tracks
+use Rattle.map.specs.Map as map
+use Rattle.map.specs.Encode as encode
+use Rattle.map.specs.Parts as said
+use Rattle.map_newer.specs.Strike as strike
 
 -- a map and its twin, each as so many bytes and the number that they are
 pub record Twins : Type 0 where
@@ -225,24 +225,24 @@ pub record Twins : Type 0 where
 
 abbrev pub Struck : List Twins → Type 0
 Struck [] = Unit {0}
-Struck (t ∷ ts) = (strike.strike (t .map) ≡ t .twin) × Struck ts
+Struck (t ∷ ts) = (strike.strike t.map ≡ t.twin) × Struck ts
 
 pub pairs : List Twins
 pairs =
 """
 
-UNFOLD = ('pairs strike.strike strike.struck strike.struckTrack strike.kept strike.materialStays strike.trackStays strike.isReserved said.listedOf said.partsOf said.opened '
-          'encode.encode encode.packetOf encode.front encode.sectionBytes encode.packetLength encode.padding encode.described beBytes be items.splitItems items.sectionOf items.itemsBytes '
-          'judge.formOf judge.isKnown judge.has answer.valueOf answer.codeOf answer.allowed tracks.splitTracks tracks.tracksOf tracks.descriptionsBytes tracks.isListed knownType map.layoutOf map.afterMaterial')
+UNFOLD = ('pairs strike.strike strike.struck strike.struck_track strike.kept strike.material_stays strike.track_stays strike.is_reserved said.listed_of said.parts_of said.opened '
+          'encode.encode encode.packet_of encode.front encode.section_bytes encode.packet_length encode.padding encode.described be_bytes be items.split_items items.section_of items.items_bytes '
+          'judge.form_of judge.is_known judge.has answer.value_of answer.code_of answer.allowed tracks.split_tracks tracks.tracks_of tracks.descriptions_bytes tracks.is_listed known_type map.layout_of map.after_material')
 
 def table(packets, count):
     """some pairs of short maps, for the checker"""
     some = [(p, q) for p, q in packets if len(p) <= 240 and len(p) > len(q) + 8][:count]
-    rows = ['    record { map = beBytes %d 0x%s; twin = beBytes %d 0x%s }\n' % (len(p), p.hex().upper(), len(q), q.hex().upper()) for p, q in some]
+    rows = ['    record { map = be_bytes %d 0x%s; twin = be_bytes %d 0x%s }\n' % (len(p), p.hex().upper(), len(q), q.hex().upper()) for p, q in some]
     proof = 'tt'
     for _ in some:
         proof = '(refl, %s)' % proof
-    return HEAD + '    \u2237'.join(rows).replace('\u2237    record', '\u2237 record') + '    \u2237 []\n\npub pairs-struck : Struck pairs\nunfolding ' + UNFOLD + '\npairs-struck = ' + proof + '\n'
+    return HEAD + '    \u2237'.join(rows).replace('\u2237    record', '\u2237 record') + '    \u2237 []\n\npub pairs_struck : Struck pairs\nunfolding ' + UNFOLD + '\npairs_struck = ' + proof + '\n'
 
 def swap(items, tag, value):
     return [(t, value if t == tag else v, s) for t, v, s in items]
