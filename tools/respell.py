@@ -1,10 +1,10 @@
 #!/usr/bin/env python3
-"""Respells the names of definitions and lemmas in snake case, in crates/ and in the pages' code words, by tools/respell.txt.
+"""Respells the names of definitions and lemmas in snake case, in crates/, by tools/respell.txt.
 
 usage: tools/respell.py [ROOT]   once, on a tree that has just been turned by the toolchain's own script
 
 Each line of the table is an old name and its new one. In .antt files and in the clauses of .rt files a name is a whole word;
-functions, strings and comments of .rt files keep their text, and a page's words are respelled between backquotes alone.
+functions, strings and comments of .rt files keep their text.
 """
 import os
 import re
@@ -52,10 +52,6 @@ def rt(text, names):
                 within = False
         out.append(line)
     return "\n".join(out)
-
-
-def page(text, names):
-    return re.sub(r"`[^`\n]+`", lambda m: respell(m[0], names), text)
 
 
 def rewrite(path, turn, names):
