@@ -1,6 +1,6 @@
 #!/bin/sh
 # Counts x86-64 instructions of the library and of the C versions, in one run: ./gxf bench [--qemu]. It needs gcc, python3 and the Rattle toolchain, and valgrind
-# on x86-64. With --qemu, and on other processors, it counts by a plugin of qemu-user, on Arm with Debian's gcc-x86-64-linux-gnu.
+# on x86-64. With --qemu it counts by a plugin of qemu-user.
 set -u
 top=$(cd "$(dirname "$0")/.." && pwd -P)
 clang=$1

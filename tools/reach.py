@@ -1,13 +1,11 @@
 #!/usr/bin/env python3
 """reach.py: which definitions of specs/ the public contracts reach, which the pages of `promises` add, and which serve code, counting or proofs alone.
 Without words it prints them by crate, with their lines. With --check it fails where a definition that nobody reaches stands outside of specs/Inside.antt,
-where one that is reached stands inside, and where docs/READING.md does not name a file that has a reached definition. A file of statements that docs/READING.md
-says to wait for its page counts as a page, as long as a page or a contract does not reach all of it. It reads text, and proves nothing."""
+where one that is reached stands inside, and where docs/READING.md does not name a file that has a reached definition. It reads text, and proves nothing."""
 import os, re, sys
 
 TOP = os.path.join(os.path.dirname(os.path.abspath(__file__)), "..")
 PAGES = "promises"
-WAITING = "wait for their page in `promises`:"  # behind it `CRATE/specs/FILE, FILE; CRATE/specs/FILE` up to a full stop
 WORD = r"[^\s(){}\[\],;.λ⌜⌝\"]+"
 
 
@@ -123,11 +121,6 @@ class Source:
         bring_in(self, text)
 
 
-def waiting_files(reading):
-    listed = re.split(r"\.\s", reading.split(WAITING, 1)[1], maxsplit=1)[0] if WAITING in reading else ""
-    return [(crate, name) for crate, names in re.findall(r"(\w+)/specs/([\w, ]+)", listed) for name in re.findall(r"\w+", names)]
-
-
 def load():
     modules, roots, pages = {}, set(), set()
     for crate in crates():
@@ -167,12 +160,6 @@ def main():
     wrong = []
     reading = read(f"{TOP}/docs/READING.md")
     by_contract = reached(modules, roots)
-    held = reached(modules, roots | pages)
-    for file in waiting_files(reading):
-        own = {(*file, n) for n in modules[file].items if not n.startswith(".")} if file in modules else set()
-        if own <= held:
-            wrong.append(f"docs/READING.md says that {file[0]}/specs/{file[1]} waits for its page, and {'its page is there' if own else 'there is no such file'}")
-        pages |= own
     by_page = reached(modules, roots | pages) - by_contract
     total = [0, 0, 0]
     for (crate, name), m in modules.items():

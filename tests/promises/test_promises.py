@@ -311,7 +311,7 @@ pub fn clamp<T>(n: usize, most: usize) -> usize
         files = {**GOOD, "crates/a/proofs/Lib.antt": "-- pub mod Once\n"}
         self.faulty(files, *[f"a::{f}: the file of {f}_once is declared nowhere" for f in ("plain_one", "put", "part")])
 
-    # ---- proved by hand ----
+    # ---- whose theorem is over a name ----
 
     def of_walker(self, name, old, new, want):
         self.faulty(self.changed(f"crates/walker/{name}", old, new), want)

@@ -82,11 +82,12 @@ fn complain<R: Eprint>(rt: &R, path: &str, why: std::io::Error) {
     let _ = eprintln!(rt; "{path}: {why}");
 }
 
-// A file's first bytes into a lent buffer: how many; none where it cannot be read. A path that is no text names no file.
+// A file's first bytes into a lent buffer: how many; none where it cannot be read. A path that is no UTF-8 names no file.
 pub fn load<R: Files + Eprint>(rt: &R, path: &[u8], buffer: &mut [u8]) -> usize
     ensures { result ≤ length buffer.old }
 {
     let Ok(name) = str::from_utf8(path) else {
+        let _ = eprintln!(rt; "a path that is no UTF-8 names no file");
         return 0;
     };
     match File::open(rt, name) {

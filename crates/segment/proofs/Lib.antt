@@ -1,3 +1,4 @@
 pub mod Floats
+pub mod NameStatements
 pub mod Names
 pub mod Once

@@ -13,7 +13,7 @@ use lib.Seq.{drop-cons, drop-length}
 use borrow.Author.Tests.{eq-eqb, ne_eqb, lt-ltb, le-ltb, eqb-true, eqb-false, ltb-false}
 use Rattle.map_items.specs.declared.Part.TheVariants.{At, Absent}
 use Rattle.segment.specs.Segment.{name_from}
-use Rattle.segment.specs.Name.{EndsAt, NameSays}
+use Rattle.segment.proofs.NameStatements.{EndsAt, NameSays}
 
 -- what is left to look at is the whole answer
 abbrev pub Left : ℕ → List ℕ → ℕ → Type 0

@@ -11,7 +11,7 @@ use Rattle.map_items.specs.Find.{missing, found}
 use Rattle.map_items.specs.declared.Verdict.TheVariants.{Accepted}
 use Rattle.umf.specs.Split.{least_of, is_counted, Parts, split_of, size_of}
 use Rattle.umf.specs.Umf.{flag_of, length_of, payload_of, section_at, section_size, section_of, count_of, parts_of, section_verdict, payload_verdict, umf_verdict, nth_in}
-use Rattle.umf.specs.Laws.{join, Laid, Opened, UmfLaws}
+use Rattle.umf.proofs.Statements.{join, Laid, Opened, UmfLaws}
 use Rattle.umf.specs.declared.Described.{Described}
 use Rattle.umf.specs.declared.Described.TheVariants.{Tracks, Segments, Users}
 use Rattle.umf.proofs.Split.{split_says, put_together, put, few_whole}

@@ -12,7 +12,7 @@ use Rattle.plate.specs.Choice.{pick, within}
 use Rattle.number.specs.Number.{le}
 use Rattle.map_items.proofs.Anywhere.{never}
 use Rattle.umf.specs.Split.{least_of, stated_of, is_counted, step_of, walk, split_of, size_of}
-use Rattle.umf.specs.Laws.{Whole, AllWhole, join, SplitSays, PutTogether}
+use Rattle.umf.proofs.Statements.{Whole, AllWhole, join, SplitSays, PutTogether}
 use Rattle.umf.specs.declared.Described.{Described}
 use Rattle.umf.specs.declared.Described.TheVariants.{Tracks, Segments, Users}
 use Rattle.umf.specs.declared.Step.{Step}
