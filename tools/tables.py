@@ -24,8 +24,8 @@ def files(folder, end):
 
 
 crates = re.findall(r"^[ \t]*(\w+)[^#:\n]*:", read("crates.txt"), re.M)  # a line begins NAME: or NAME staticlib:
-# the public functions of each crate; a program has none
-functions = {c: set(re.findall(r'^pub (?:const |unsafe |extern "C" )*fn (\w+)', "".join(files(f"{top}/crates/{c}/src", "lib.rt")), re.M)) for c in crates}
+# the public functions of each crate, methods and those of its impls among them; a program has none
+functions = {c: set(re.findall(r'^(?:pub (?:const |unsafe |extern "C" )*|    (?:pub )?)fn (\w+)', "".join(files(f"{top}/crates/{c}/src", "lib.rt")), re.M)) for c in crates}
 
 
 def is_declared(crate, name):

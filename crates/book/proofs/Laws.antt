@@ -7,6 +7,7 @@ use native.Mathlib.Omega.{arith}
 use lib.ListN.{length, get_or}
 use borrow.Author.Tests.{lt-ltb, le-ltb, eq-eqb, ne_eqb, ltb-true, ltb-false, eqb-true, eqb-false, le-leb, lt-leb}
 use lib.Dec.{eqb, ltb}
+use Rattle.std.specs.Prelude.{Result, Ok, Err, Some, None}
 use Rattle.plate.specs.Choice.{pick}
 use Rattle.plate.specs.Ended.{none}
 use Rattle.plate.specs.Plate.{refusal}
@@ -18,11 +19,10 @@ use Rattle.media_type.proofs.Laws.{known_over, known_under}
 use Rattle.field.specs.Field.{has_mark, is_even, is_field}
 use Rattle.field.proofs.Laws.{other_half, own_half}
 use Rattle.book.specs.Book.{on_slot, Slot, broken, holds, said_at, record_at, book_from, book_of, sound_type, rises_at, stands, judge_book, bad, good, is_of, first_in, or_not_there, nothing, there, if_good, lookup_of}
-use Rattle.book.specs.Inside.{book_at, plain_head, doubled_head, sound_head, kind_of, verdict_from}
-use Rattle.book.specs.declared.Kind.TheVariants.{Bad, Other, Near}
+use Rattle.book.specs.Inside.{book_at, plain_head, doubled_head, sound_head, field_told, verdict_from}
 use Rattle.book.specs.declared.Entry.{Entry}
-use Rattle.book.specs.declared.LookupAnswer.{LookupAnswer}
-use Rattle.book.specs.declared.LookupAnswer.TheVariants as lookup
+use Rattle.plate.specs.declared.Refusal.{Refusal}
+use Rattle.plate.specs.declared.Fault.TheVariants as fault
 
 -- enough fuel is enough
 fuel : (s : List ℕ) (f g at : ℕ) → length s - at < f → length s - at < g → book_from s f at ≡ book_from s g at
@@ -159,18 +159,6 @@ module _ (h number : ℕ) (small : h < 2 ^ 32) where
           rw (has_marked k, a, b, d, not_known k) (four marks far (known_type (h / 0x1000000 - 64)) (is_even number))
 
   module _ (field : ℕ) where
-    -- what each kind tells: whether the first word is good, and whether the record is of the field
-    pub kind_bad : kind_of h number field ≡ Bad → sound_head h number ≡ false
-    unfolding kind_of
-    kind_bad e = sound_either ∙ go (plain_head h) (doubled_head h number) (eqb number field) (eqb (number / 2) (field / 2)) e
-      where
-        go : (a b q r : Bool) → pick a (pick q Near Other) (pick b (pick r Near Other) Bad) ≡ Bad → pick a true b ≡ false
-        go true b true r e = absurd (let z : ◌≡◌ {A = ℕ} 0 1 = cc in omega arith)
-        go true b false r e = absurd (let z : ◌≡◌ {A = ℕ} 0 1 = cc in omega arith)
-        go false true q true e = absurd (let z : ◌≡◌ {A = ℕ} 0 1 = cc in omega arith)
-        go false true q false e = absurd (let z : ◌≡◌ {A = ℕ} 0 1 = cc in omega arith)
-        go false false q r e = refl
-
     plain_of : plain_head h ≡ true → is_field (has_mark (h / 0x1000000)) number field ≡ eqb number field
     unfolding is_field
     plain_of a = rw (unmarked (plain_low a)) (sym (as_is (eqb number field)))
@@ -182,29 +170,25 @@ module _ (h number : ℕ) (small : h < 2 ^ 32) where
         go true q e = own_half number field e (eqb-true (number / 2) (field / 2) q)
         go false q e = other_half true number field (λ _. e) (eqb-false (number / 2) (field / 2) q)
 
-    pub kind_other : kind_of h number field ≡ Other → (sound_head h number ≡ true) × (is_field (has_mark (h / 0x1000000)) number field ≡ false)
-    unfolding kind_of
-    kind_other e = go (plain_head h) refl (doubled_head h number) refl (eqb number field) refl (eqb (number / 2) (field / 2)) refl e
+    -- what is told: whether the first word is good, and whether the record is of the field
+    pub none_told : field_told h number field ≡ None → sound_head h number ≡ false
+    unfolding field_told
+    none_told e = sound_either ∙ go (plain_head h) (doubled_head h number) e
       where
-        go : (a : Bool) → plain_head h ≡ a → (b : Bool) → doubled_head h number ≡ b → (q : Bool) → eqb number field ≡ q → (r : Bool) → eqb (number / 2) (field / 2) ≡ r
-            → pick a (pick q Near Other) (pick b (pick r Near Other) Bad) ≡ Other → (sound_head h number ≡ true) × (is_field (has_mark (h / 0x1000000)) number field ≡ false)
-        go true i b j true k r l e = absurd (let z : ◌≡◌ {A = ℕ} 0 1 = cc in omega arith)
-        go true i b j false k r l e = (sound_either ∙ rw i, plain_of i ∙ k)
-        go false i true j q k true l e = absurd (let z : ◌≡◌ {A = ℕ} 0 1 = cc in omega arith)
-        go false i true j q k false l e = (sound_either ∙ rw (i, j), doubled_of j ∙ l)
-        go false i false j q k r l e = absurd (let z : ◌≡◌ {A = ℕ} 0 1 = cc in omega arith)
+        go : (a b : Bool) → pick a (Some (eqb number field)) (pick b (Some (eqb (number / 2) (field / 2))) None) ≡ None → pick a true b ≡ false
+        go true b e = absurd (let z : ◌≡◌ {A = ℕ} 0 1 = cc in omega arith)
+        go false true e = absurd (let z : ◌≡◌ {A = ℕ} 0 1 = cc in omega arith)
+        go false false e = refl
 
-    pub kind_near : kind_of h number field ≡ Near → (sound_head h number ≡ true) × (is_field (has_mark (h / 0x1000000)) number field ≡ true)
-    unfolding kind_of
-    kind_near e = go (plain_head h) refl (doubled_head h number) refl (eqb number field) refl (eqb (number / 2) (field / 2)) refl e
+    pub some_told : (near : Bool) → field_told h number field ≡ Some near → (sound_head h number ≡ true) × (is_field (has_mark (h / 0x1000000)) number field ≡ near)
+    unfolding field_told
+    some_told near e = go (plain_head h) refl (doubled_head h number) refl e
       where
-        go : (a : Bool) → plain_head h ≡ a → (b : Bool) → doubled_head h number ≡ b → (q : Bool) → eqb number field ≡ q → (r : Bool) → eqb (number / 2) (field / 2) ≡ r
-            → pick a (pick q Near Other) (pick b (pick r Near Other) Bad) ≡ Near → (sound_head h number ≡ true) × (is_field (has_mark (h / 0x1000000)) number field ≡ true)
-        go true i b j true k r l e = (sound_either ∙ rw i, plain_of i ∙ k)
-        go true i b j false k r l e = absurd (let z : ◌≡◌ {A = ℕ} 0 1 = cc in omega arith)
-        go false i true j q k true l e = (sound_either ∙ rw (i, j), doubled_of j ∙ l)
-        go false i true j q k false l e = absurd (let z : ◌≡◌ {A = ℕ} 0 1 = cc in omega arith)
-        go false i false j q k r l e = absurd (let z : ◌≡◌ {A = ℕ} 0 1 = cc in omega arith)
+        go : (a : Bool) → plain_head h ≡ a → (b : Bool) → doubled_head h number ≡ b
+            → pick a (Some (eqb number field)) (pick b (Some (eqb (number / 2) (field / 2))) None) ≡ Some near → (sound_head h number ≡ true) × (is_field (has_mark (h / 0x1000000)) number field ≡ near)
+        go true i b j e = (sound_either ∙ rw i, plain_of i ∙ cc)
+        go false i true j e = (sound_either ∙ rw (i, j), doubled_of j ∙ cc)
+        go false i false j e = absurd (let z : ◌≡◌ {A = ℕ} 0 1 = cc in omega arith)
 
 -- by its first word, its number and its offset: whether a record that is there may stand as record n
 pub seen : (s : List ℕ) → Bytes s → (at n last : ℕ) → at + 16 ≤ length s
@@ -238,9 +222,9 @@ module _ (s : List ℕ) (n last : ℕ) where
   none_at_end track field h = rw (out s n h)
 
   module _ (h : n * 16 < length s) where
-    pub fault : standing n last (record_at s (n * 16)) ≡ false → verdict_from s n last ≡ bad n
+    pub no_good : standing n last (record_at s (n * 16)) ≡ false → verdict_from s n last ≡ bad n
     unfolding judge_book
-    fault f = rw (turn s n h) (go (record_at s (n * 16)) f)
+    no_good f = rw (turn s n h) (go (record_at s (n * 16)) f)
       where
         go : (x : Slot) → standing n last x ≡ false → judge_book n last (on_slot (book_at s (n + 1)) x).list (on_slot (book_at s (n + 1)) x).end ≡ bad n
         go broken f = refl
@@ -248,7 +232,7 @@ module _ (s : List ℕ) (n last : ℕ) where
 
     pub torn : length s < n * 16 + 16 → verdict_from s n last ≡ bad n
     unfolding record_at
-    torn k = fault (rw (lt-ltb (length s - n * 16) 16 (omega arith)))
+    torn k = no_good (rw (lt-ltb (length s - n * 16) 16 (omega arith)))
 
     module _ (f : standing n last (record_at s (n * 16)) ≡ true) where
       here : record_at s (n * 16) ≡ holds (said_at s (n * 16))
@@ -266,15 +250,15 @@ module _ (s : List ℕ) (n last : ℕ) where
 
 -- a turn at a record that is there
 module _ (s : List ℕ) (g : Bytes s) (n last : ℕ) (room : n * 16 + 16 ≤ length s) where
-  pub is_bad : (a : LookupAnswer) → pick (sound_head (le s (n * 16) 4) (le s (n * 16 + 4) 4)) (rises_at n last (le s (n * 16 + 8) 8)) false ≡ false
-      → lookup.Refused (refusal 23 n) ≡ if_good (verdict_from s n last) a
-  is_bad a q = rw (fault s n last (omega arith) (seen s g (n * 16) n last room ∙ q))
+  pub is_bad : (a : Result ℕ Refusal) → pick (sound_head (le s (n * 16) 4) (le s (n * 16 + 4) 4)) (rises_at n last (le s (n * 16 + 8) 8)) false ≡ false
+      → Err (refusal fault.Book n) ≡ if_good (verdict_from s n last) a
+  is_bad a q = rw (no_good s n last (omega arith) (seen s g (n * 16) n last room ∙ q))
 
   pub may_stand : sound_head (le s (n * 16) 4) (le s (n * 16 + 4) 4) ≡ true → rises_at n last (le s (n * 16 + 8) 8) ≡ true → standing n last (record_at s (n * 16)) ≡ true
   may_stand p q = seen s g (n * 16) n last room ∙ rw (p, q)
 
 -- what is left to do from record n on, with none found yet
-abbrev pub answer_from : List ℕ → ℕ → ℕ → ℕ → ℕ → LookupAnswer
+abbrev pub answer_from : List ℕ → ℕ → ℕ → ℕ → ℕ → Result ℕ Refusal
 answer_from s track field n last = if_good (verdict_from s n last) (or_not_there (first_in track field (book_at s n).list))
 
 pub begin : (s : List ℕ) (track field : ℕ) → lookup_of s track field ≡ answer_from s track field 0 0
@@ -282,21 +266,25 @@ unfolding lookup_of book_of
 begin s track field = refl
 
 -- behind the last whole record: nothing, or a broken tail
-pub on_end : (s : List ℕ) (n last : ℕ) (a b : LookupAnswer) → n ≡ length s / 16 → (length s ≤ n * 16 → a ≡ b)
-    → pick (eqb (length s % 16) 0) a (lookup.Refused (refusal 23 n)) ≡ if_good (verdict_from s n last) b
+pub on_end : (s : List ℕ) (n last : ℕ) (a b : Result ℕ Refusal) → n ≡ length s / 16 → (length s ≤ n * 16 → a ≡ b)
+    → pick (eqb (length s % 16) 0) a (Err (refusal fault.Book n)) ≡ if_good (verdict_from s n last) b
 on_end s n last a b e f = go (eqb (length s % 16) 0) refl
   where
-    go : (x : Bool) → eqb (length s % 16) 0 ≡ x → pick x a (lookup.Refused (refusal 23 n)) ≡ if_good (verdict_from s n last) b
+    go : (x : Bool) → eqb (length s % 16) 0 ≡ x → pick x a (Err (refusal fault.Book n)) ≡ if_good (verdict_from s n last) b
     go true q = let z = eqb-true (length s % 16) 0 q in rw (at_end_lem s n last (omega arith)) (f (omega arith))
     go false q = let z = eqb-false (length s % 16) 0 q in rw (torn s n last (omega arith) (omega arith))
 
-module _ (s : List ℕ) (track field n last : ℕ) (room : n * 16 + 16 ≤ length s) (f : standing n last (record_at s (n * 16)) ≡ true) where
-  pub on_next : is_of track field (said_at s (n * 16)) ≡ false → answer_from s track field n last ≡ answer_from s track field (n + 1) (le s (n * 16 + 8) 8)
-  on_next q = rw (next s n last (omega arith) f, first s n last (omega arith) f track field, q)
+module _ (s : List ℕ) (track field n last : ℕ) (room : n * 16 + 16 ≤ length s) where
+  pub on_next : standing n last (record_at s (n * 16)) ≡ true → is_of track field (said_at s (n * 16)) ≡ false
+      → answer_from s track field n last ≡ answer_from s track field (n + 1) (le s (n * 16 + 8) 8)
+  on_next f q = rw (next s n last (omega arith) f, first s n last (omega arith) f track field, q)
 
-  pub on_found : is_of track field (said_at s (n * 16)) ≡ true
-      → if_good (verdict_from s (n + 1) (le s (n * 16 + 8) 8)) (lookup.At (le s (n * 16 + 8) 8)) ≡ answer_from s track field n last
-  on_found q = rw (next s n last (omega arith) f, first s n last (omega arith) f track field, q)
+  pub on_found : is_of track field (said_at s (n * 16)) ≡ true → if_good (verdict_from s n last) (Ok (le s (n * 16 + 8) 8)) ≡ answer_from s track field n last
+  on_found q = go (standing n last (record_at s (n * 16))) refl
+    where
+      go : (b : Bool) → standing n last (record_at s (n * 16)) ≡ b → if_good (verdict_from s n last) (Ok (le s (n * 16 + 8) 8)) ≡ answer_from s track field n last
+      go true f = rw (first s n last (omega arith) f track field, q)
+      go false f = rw (no_good s n last (omega arith) f)
 
 -- whether a record is of a track and a field, by its first word
 module _ (s : List ℕ) (g : Bytes s) (at track field : ℕ) where

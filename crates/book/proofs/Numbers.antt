@@ -3,15 +3,14 @@ use Prim.Native.Nat.{ℕ}
 use mathlib.Core.Path.{◌≡◌, refl, subst}
 use mathlib.Core.List.{List}
 use native.Mathlib.Omega.{arith}
+use Rattle.std.specs.Prelude.{Result, Ok, Err}
 use Rattle.plate.specs.declared.Refusal.{Refusal}
 use Rattle.plate.proofs.Numbers.{Among}
 use Rattle.book.specs.Book.{book_of, Verdict, good, bad, judge_book, Offset, nothing, there, first_in, or_not_there, if_good, lookup_of}
-use Rattle.book.specs.declared.LookupAnswer.{LookupAnswer}
-use Rattle.book.specs.declared.LookupAnswer.TheVariants as lookup
 
-abbrev OfLookup : LookupAnswer → Type 0
-OfLookup (lookup.At o) = Unit {0}
-OfLookup (lookup.Refused r) = Among 16 23 r
+abbrev OfLookup : Result ℕ Refusal → Type 0
+OfLookup (Ok o) = Unit {0}
+OfLookup (Err r) = Among 16 23 r
 
 lookup_numbers : (s : List ℕ) (track field : ℕ) → OfLookup (lookup_of s track field)
 unfolding lookup_of
@@ -22,5 +21,5 @@ lookup_numbers s track field = go (judge_book 0 0 (book_of s).list (book_of s).e
     go good (there o) = tt
     go good nothing = (omega arith, omega arith, λ n. refl)
 
-pub lookup_refused : (s : List ℕ) (track field : ℕ) (r : Refusal) → lookup_of s track field ≡ lookup.Refused r → Among 16 23 r
+pub lookup_refused : (s : List ℕ) (track field : ℕ) (r : Refusal) → lookup_of s track field ≡ Err r → Among 16 23 r
 lookup_refused s track field r e = subst OfLookup e (lookup_numbers s track field)

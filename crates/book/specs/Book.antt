@@ -1,5 +1,5 @@
 -- The seek book (01, "Stream, seek, book"): the entries, their bytes, when a lent book is good, and lookup. A book is its list of entries; only the bytes know the layout.
-use Rattle.std.specs.Prelude.{ℕ, zero, suc, ◌+◌, ◌-◌, Bool, true, false, List, [], ◌∷◌, ◌++◌, length, get_or, eqb, ltb}
+use Rattle.std.specs.Prelude.{ℕ, zero, suc, ◌+◌, ◌-◌, Bool, true, false, List, [], ◌∷◌, ◌++◌, length, get_or, eqb, ltb, Result, Ok, Err}
 use Rattle.plate.specs.Choice.{pick}
 use Rattle.plate.specs.Ended.{Ended, none, in_front}
 use Rattle.plate.specs.Plate.{refusal}
@@ -7,8 +7,8 @@ use Rattle.number.specs.Number.{le, le_bytes}
 use Rattle.media_type.specs.MediaType.{known_type}
 use Rattle.field.specs.Field.{has_mark, is_even, is_field}
 use Rattle.book.specs.declared.Entry.{Entry}
-use Rattle.book.specs.declared.LookupAnswer.{LookupAnswer}
-use Rattle.book.specs.declared.LookupAnswer.TheVariants as lookup
+use Rattle.plate.specs.declared.Refusal.{Refusal}
+use Rattle.plate.specs.declared.Fault.TheVariants as fault
 
 -- the encoder: mark 47 58, ID, marked type, field number (32), packet offset (64), least significant first; 16 bytes. It is for a field number under 2^32 and an offset under 2^64: more would be cut
 unfoldable pub record_bytes : Entry → List ℕ
@@ -90,17 +90,17 @@ first_in track field [] = nothing
 first_in track field (e ∷ es) = pick (is_of track field e) (there e.at) (first_in track field es)
 
 -- the first entry of the track and field, or 16
-abbrev pub or_not_there : Offset → LookupAnswer
-or_not_there (there o) = lookup.At o
-or_not_there nothing = lookup.Refused (refusal 16 0)
+abbrev pub or_not_there : Offset → Result ℕ Refusal
+or_not_there (there o) = Ok o
+or_not_there nothing = Err (refusal fault.NotThere 0)
 
-abbrev pub if_good : Verdict → LookupAnswer → LookupAnswer
+abbrev pub if_good : Verdict → Result ℕ Refusal → Result ℕ Refusal
 if_good good a = a
-if_good (bad n) a = lookup.Refused (refusal 23 n)
+if_good (bad n) a = Err (refusal fault.Book n)
 
 -- look-up (docs/DECISIONS.md, F16): 23 first, its place the number of the record; then the offset, or 16 at 0. The offset before record 0 is not looked at
-abbrev pub lookup_in : Book → ℕ → ℕ → LookupAnswer
+abbrev pub lookup_in : Book → ℕ → ℕ → Result ℕ Refusal
 lookup_in b track field = if_good (judge_book 0 0 b.list b.end) (or_not_there (first_in track field b.list))
 
-unfoldable pub lookup_of : List ℕ → ℕ → ℕ → LookupAnswer
+unfoldable pub lookup_of : List ℕ → ℕ → ℕ → Result ℕ Refusal
 lookup_of s track field = lookup_in (book_of s) track field

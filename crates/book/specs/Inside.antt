@@ -1,10 +1,8 @@
 -- What serves the code alone: the first word of a record, and a book from a record on.
-use Rattle.std.specs.Prelude.{ℕ, suc, ◌-◌, ◌*◌, ◌/◌, ◌%◌, Bool, false, List, length, eqb, ltb}
+use Rattle.std.specs.Prelude.{ℕ, suc, ◌-◌, ◌*◌, ◌/◌, ◌%◌, Bool, false, List, length, eqb, ltb, Option, Some, None}
 use Rattle.plate.specs.Choice.{pick}
 use Rattle.media_type.specs.MediaType.{known_type}
 use Rattle.field.specs.Field.{is_even}
-use Rattle.book.specs.declared.Kind.{Kind}
-use Rattle.book.specs.declared.Kind.TheVariants.{Bad, Other, Near}
 use Rattle.book.specs.Book.{Book, book_from, sound_type, Verdict, judge_book}
 
 -- for the code alone: the first four bytes of a record, as one word, least significant first, are the marks, an ID up to 63 and a marked type that is good beside its number
@@ -18,11 +16,10 @@ plain_head h = pick (eqb (h % 0x10000) 0x5847) (pick (ltb 63 (h / 0x10000 % 0x10
 unfoldable pub doubled_head : ℕ → ℕ → Bool
 doubled_head h number = pick (ltb h 0x40000000) false (pick (is_even number) (plain_head (h - 0x40000000)) false)
 
--- what a record is to a look-up of a field, by its first word and its number, whatever its track
-unfoldable pub kind_of : ℕ → ℕ → ℕ → Kind
-kind_of h number field =
-    pick (plain_head h) (pick (eqb number field) Near Other)
-    (pick (doubled_head h number) (pick (eqb (number / 2) (field / 2)) Near Other) Bad)
+-- of a record whose first word and number are good, whether it is of a field, whatever its track
+unfoldable pub field_told : ℕ → ℕ → ℕ → Option Bool
+field_told h number field =
+    pick (plain_head h) (Some (eqb number field)) (pick (doubled_head h number) (Some (eqb (number / 2) (field / 2))) None)
 
 -- and a book from record n on, where 16 times n is no more than its length
 abbrev pub book_at : List ℕ → ℕ → Book

@@ -1,11 +1,11 @@
 -- What the mark of 02 §2 means in a lent book, in words, and that a book without it is read as 01 has it. Proved in proofs/Marked.antt.
-use Rattle.std.specs.Prelude.{ℕ, ◌+◌, ◌≡◌, Bool, true, false, List, [], ◌∷◌, ◌⊎◌, eqb, ltb}
+use Rattle.std.specs.Prelude.{ℕ, ◌+◌, ◌≡◌, Bool, true, false, List, [], ◌∷◌, ◌⊎◌, eqb, ltb, Result}
 use Rattle.plate.specs.Choice.{pick}
 use Rattle.media_type.specs.MediaType.{known_type}
 use Rattle.field.specs.Field.{has_mark, is_even}
 use Rattle.book.specs.Book.{Book, rises_at, sound_type, Verdict, good, bad, Offset, nothing, there, or_not_there, if_good, lookup_in}
 use Rattle.book.specs.declared.Entry.{Entry}
-use Rattle.book.specs.declared.LookupAnswer.{LookupAnswer}
+use Rattle.plate.specs.declared.Refusal.{Refusal}
 
 -- 01's look-up: a known type, and the number itself
 unfoldable pub judge_plain : ℕ → ℕ → List Entry → Bool → Verdict
@@ -17,7 +17,7 @@ unfoldable pub first_plain : ℕ → ℕ → List Entry → Offset
 first_plain track field [] = nothing
 first_plain track field (e ∷ es) = pick (pick (eqb e.track track) (eqb e.field field) false) (there e.at) (first_plain track field es)
 
-abbrev pub lookup_plain : Book → ℕ → ℕ → LookupAnswer
+abbrev pub lookup_plain : Book → ℕ → ℕ → Result ℕ Refusal
 lookup_plain b track field = if_good (judge_plain 0 0 b.list b.end) (or_not_there (first_plain track field b.list))
 
 -- no record of a book has the mark

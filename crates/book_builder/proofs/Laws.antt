@@ -9,6 +9,7 @@ use native.Mathlib.Nat.{zero-add}
 use lib.Seq.{sets, sets-eq}
 use lib.Dec.{eqb, ltb}
 use borrow.Author.Tests.{lt-ltb, le-ltb, ltb-true, ltb-false}
+use Rattle.std.specs.Prelude.{Result, Ok, Err}
 use Rattle.plate.specs.Choice.{pick}
 use Rattle.plate.specs.Ended.{none, in_front}
 use Rattle.plate.specs.Plate.{refusal}
@@ -18,8 +19,6 @@ use Rattle.number.proofs.Laws.{length-le_bytes}
 use Rattle.number.proofs.Stores.{sets_append}
 use Rattle.piece.specs.Piece.{piece_at}
 use Rattle.piece.specs.declared.Piece.{Piece}
-use Rattle.piece.specs.declared.PieceAnswer.{PieceAnswer}
-use Rattle.piece.specs.declared.PieceAnswer.TheVariants as piece
 use Rattle.piece.proofs.Laws.{Told, told}
 use Rattle.order.specs.Order.{started, misplaced, overdue, unmapped, progress_after, ending, step_of}
 use Rattle.order.specs.declared.Progress.{Progress}
@@ -27,30 +26,29 @@ use Rattle.order.specs.declared.Step.{Step}
 use Rattle.order.specs.declared.Step.TheVariants as step
 use Rattle.stream.specs.Stream.{Placed, Packets, closed, types_after, on_piece, packets_from, packets, on_step, type_for, step_at, judge_packets, check_of}
 use Rattle.stream.proofs.Laws.{turn, out}
-use Rattle.stream.specs.declared.CheckAnswer.TheVariants as check
 use Rattle.book.specs.Book.{record_bytes, book_bytes}
 use Rattle.book.specs.declared.Entry.{Entry}
+use Rattle.plate.specs.declared.Fault.TheVariants as fault
 use Rattle.book.proofs.Coding.{length-bytes}
 use Rattle.book_builder.specs.BookBuilder.{recorded, entry_of, entries_here, entries_of, entries_in, build_answer, built_in}
 use Rattle.book_builder.specs.Inside.{Accepted}
 use Rattle.piece.specs.Seen.{Seeable, seen_at}
 use Rattle.book_builder.proofs.Seen.{seen}
-use Rattle.book_builder.specs.declared.BuildAnswer.TheVariants as build
 
 -- the packets from here on pass, after some progress
 pub record Passing (s : List ℕ) (ps : Packets) : Type 0 where
   pub progress : Progress
   pub packets : ℕ
-  pub judged : judge_packets (length s) progress ps.list ps.end ≡ check.Packets packets
+  pub judged : judge_packets (length s) progress ps.list ps.end ≡ Ok packets
 
 -- a stream does not end where bytes follow
-no_end : (p : Progress) (x : Piece) (at listed n : ℕ) → step_of p x at listed true ≡ step.Ended n → ⊥
+no_end : (p : Progress) (x : Piece) (at listed n : ℕ) → step_of p x at listed true ≡ Ok (step.Ended n) → ⊥
 unfolding step_of ending
 no_end p x at listed n = go (misplaced p.eos_due p.flt x.packet_type) (overdue p.since_map x.packet_type) (unmapped x.packet_type x.media_type listed) (eqb x.packet_type 0xFB)
   where
     go : (a b d f : Bool)
-        → pick a (step.Refused (refusal 19 at))
-        (pick b (step.Refused (refusal 20 at)) (pick d (step.Refused (refusal 22 at)) (pick f (step.Refused (refusal 18 at)) (step.Next (progress_after p x.packet_type))))) ≡ step.Ended n
+        → pick a (Err (refusal fault.LocatorPlace at))
+        (pick b (Err (refusal fault.MapOverdue at)) (pick d (Err (refusal fault.Unmapped at)) (pick f (Err (refusal fault.StreamEnd at)) (Ok (step.Next (progress_after p x.packet_type)))))) ≡ Ok (step.Ended n)
         → ⊥
     go true b d f e = let z : ◌≡◌ {A = ℕ} 0 1 = cc in absurd (omega arith)
     go false true d f e = let z : ◌≡◌ {A = ℕ} 0 1 = cc in absurd (omega arith)
@@ -59,18 +57,18 @@ no_end p x at listed n = go (misplaced p.eos_due p.flt x.packet_type) (overdue p
     go false false false false e = let z : ◌≡◌ {A = ℕ} 0 1 = cc in absurd (omega arith)
 
 -- of packets that pass, the first is whole, and where bytes follow it the rest pass
-passing_whole : (s : List ℕ) (at : ℕ) (types : List ℕ) (next : List ℕ → ℕ → Packets) (a : PieceAnswer) → Passing s (on_piece s at types next a) → (r : Refusal) → a ≡ piece.Refused r → ⊥
+passing_whole : (s : List ℕ) (at : ℕ) (types : List ℕ) (next : List ℕ → ℕ → Packets) (a : Result Piece Refusal) → Passing s (on_piece s at types next a) → (r : Refusal) → a ≡ Err r → ⊥
 unfolding judge_packets
-passing_whole s at types next a p r e = let j : check.Refused r ≡ check.Packets p.packets = rw e at p.judged in let z : ◌≡◌ {A = ℕ} 0 1 = cc in absurd (omega arith)
+passing_whole s at types next a p r e = let j : Err r ≡ Ok p.packets = rw e at p.judged in let z : ◌≡◌ {A = ℕ} 0 1 = cc in absurd (omega arith)
 
 passing_next : (s : List ℕ) (x : Placed) (ps : Packets) → Passing s (in_front x ps) → x.at + x.piece.len < length s → Passing s ps
 unfolding judge_packets
 passing_next s x ps p h = go (step_at (length s) p.progress x) refl p.judged
   where
-    go : (t : Step) → step_at (length s) p.progress x ≡ t → on_step (λ q. judge_packets (length s) q ps.list ps.end) t ≡ check.Packets p.packets → Passing s ps
-    go (step.Next q) e j = record { progress = q; packets = p.packets; judged = j }
-    go (step.Refused r) e j = absurd (let z : ◌≡◌ {A = ℕ} 0 1 = cc in omega arith)
-    go (step.Ended n) e j = absurd (no_end p.progress x.piece x.at (type_for x.types x.piece.track) n (rw (lt-ltb (x.at + x.piece.len) (length s) h) at e))
+    go : (t : Result Step Refusal) → step_at (length s) p.progress x ≡ t → on_step (λ q. judge_packets (length s) q ps.list ps.end) t ≡ Ok p.packets → Passing s ps
+    go (Ok (step.Next q)) e j = record { progress = q; packets = p.packets; judged = j }
+    go (Err r) e j = absurd (let z : ◌≡◌ {A = ℕ} 0 1 = cc in omega arith)
+    go (Ok (step.Ended n)) e j = absurd (no_end p.progress x.piece x.at (type_for x.types x.piece.track) n (rw (lt-ltb (x.at + x.piece.len) (length s) h) at e))
 
 closed_fails : (s : List ℕ) → Passing s (none closed) → ⊥
 unfolding judge_packets
@@ -108,12 +106,12 @@ module _ (s : List ℕ) (at : ℕ) (types : List ℕ) (done : List Entry) (l : L
     abbrev x : Piece
     x = seen_at s at
 
-    whole_here : (piece_at s at l.first ≡ piece.Whole x) × Seeable s at
+    whole_here : (piece_at s at l.first ≡ Ok x) × Seeable s at
     whole_here = go (piece_at s at l.first) refl
       where
-        go : (a : PieceAnswer) → piece_at s at l.first ≡ a → (piece_at s at l.first ≡ piece.Whole x) × Seeable s at
-        go (piece.Whole y) e = let w = seen s at l.first y e in (e ∙ ap piece.Whole w.is, w.can)
-        go (piece.Refused r) e = absurd (passing_whole s at types (λ now_types next. packets_from s (l.fuel - 1) false now_types next) (piece_at s at l.first) (rw now_turn at (l.passes h)) r e)
+        go : (a : Result Piece Refusal) → piece_at s at l.first ≡ a → (piece_at s at l.first ≡ Ok x) × Seeable s at
+        go (Ok y) e = let w = seen s at l.first y e in (e ∙ ap Ok w.is, w.can)
+        go (Err r) e = absurd (passing_whole s at types (λ now_types next. packets_from s (l.fuel - 1) false now_types next) (piece_at s at l.first) (rw now_turn at (l.passes h)) r e)
 
     pub can_see : Seeable s at
     can_see = whole_here.1
@@ -285,17 +283,17 @@ module _ (s : List ℕ) (at to : ℕ) (types old now-out : List ℕ) (l : Writin
 
 -- the answer and the buffer, by the check and the room
 module _ (l s : List ℕ) where
-  pub build_refused : (r : Refusal) → check_of s ≡ check.Refused r → (build.Refused r ≡ build_answer l s) × (l ≡ built_in l s)
+  pub build_refused : (r : Refusal) → check_of s ≡ Err r → (Err r ≡ build_answer l s) × (l ≡ built_in l s)
   unfolding built_in build_answer
   build_refused r e = rw e (refl, refl)
 
-  pub build_small : (k : ℕ) → check_of s ≡ check.Packets k → length l < 16 * length (entries_in s) → (build.Refused (refusal 13 0) ≡ build_answer l s) × (l ≡ built_in l s)
+  pub build_small : (k : ℕ) → check_of s ≡ Ok k → length l < 16 * length (entries_in s) → (Err (refusal fault.Room 0) ≡ build_answer l s) × (l ≡ built_in l s)
   unfolding built_in build_answer
   build_small k e h = rw (e, lt-ltb (length l) (16 * length (entries_in s)) h) (refl, refl)
 
-  pub build_done : (k : ℕ) → check_of s ≡ check.Packets k → 16 * length (entries_in s) ≤ length l → (n : ℕ) → n ≡ length (entries_in s)
-      → (new : List ℕ) → new ≡ sets l 0 (book_bytes (entries_in s)) → (build.Records n ≡ build_answer l s) × (new ≡ built_in l s)
+  pub build_done : (k : ℕ) → check_of s ≡ Ok k → 16 * length (entries_in s) ≤ length l → (n : ℕ) → n ≡ length (entries_in s)
+      → (new : List ℕ) → new ≡ sets l 0 (book_bytes (entries_in s)) → (Ok n ≡ build_answer l s) × (new ≡ built_in l s)
   unfolding built_in build_answer
   build_done k e h n q new o =
       let w = sets-eq (book_bytes (entries_in s)) l 0 (omega (arith, length-bytes (entries_in s))) in
-      rw (e, le-ltb (length l) (16 * length (entries_in s)) h) (ap build.Records q, o ∙ rw zero-add at w)
+      rw (e, le-ltb (length l) (16 * length (entries_in s)) h) (ap Ok q, o ∙ rw zero-add at w)

@@ -7,6 +7,7 @@ use native.Mathlib.Omega.{arith}
 use lib.ListN.{length, replicate}
 use lib.Dec.{eqb, ltb}
 use borrow.Author.Tests.{lt-ltb, le-ltb, ne_eqb}
+use Rattle.std.specs.Prelude.{Result, Ok, Err}
 use Rattle.plate.specs.Choice.{pick}
 use Rattle.plate.specs.Ended.{none}
 use Rattle.number.proofs.Laws.{Bytes}
@@ -16,13 +17,12 @@ use Rattle.field.specs.Field.{type_with, has_mark, is_even, carries_two}
 use Rattle.field.proofs.Laws.{two_even, mark_back}
 use Rattle.piece.specs.Piece.{piece_at}
 use Rattle.piece.specs.declared.Piece.{Piece}
-use Rattle.piece.specs.declared.PieceAnswer.{PieceAnswer}
-use Rattle.piece.specs.declared.PieceAnswer.TheVariants as piece
 use Rattle.piece.proofs.Laws.{told}
 use Rattle.piece.proofs.Fields.{field_fits}
 use Rattle.stream.specs.Stream.{closed, runs_out, types_after, on_piece, packets_from, packets}
 use Rattle.book.specs.Book.{sound_type, rises_at, stands, judge_book, good}
 use Rattle.book.specs.declared.Entry.{Entry}
+use Rattle.plate.specs.declared.Refusal.{Refusal}
 use Rattle.book.proofs.Coding.{AllFit}
 use Rattle.book_builder.specs.BookBuilder.{recorded, entry_of, entries_here, entries_of, entries_in}
 
@@ -60,7 +60,7 @@ nothing n last = record { judged = refl; fit = tt }
 
 module _ (s : List ℕ) (b : Bytes s) (small : length s < 2 ^ 64) where
   -- a packet, and packets behind it
-  on_whole : (at : ℕ) (first : Bool) (x : Piece) → piece_at s at first ≡ piece.Whole x → (n last : ℕ) → Low n last at
+  on_whole : (at : ℕ) (first : Bool) (x : Piece) → piece_at s at first ≡ Ok x → (n last : ℕ) → Low n last at
       → (byte : ℕ) (es : List Entry) → ((m o : ℕ) → Low m o (at + x.len) → Sound m o es) → Sound n last (entries_here at byte x ++ es)
   unfolding entries_here judge_book AllFit stands rises_at
   on_whole at first x e n last low byte es rest = go (recorded x) refl
@@ -80,11 +80,11 @@ module _ (s : List ℕ) (b : Bytes s) (small : length s < 2 ^ 64) where
   sound_from zero first types at n last low = nothing n last
   sound_from (suc f) first types at n last low = step (λ ts k m o h. sound_from f false ts k m o h) (ltb at (length s)) (piece_at s at first) refl
     where
-      step : ((ts : List ℕ) (k m o : ℕ) → Low m o k → Sound m o (entries_of (packets_from s f false ts k).list)) → (t : Bool) (a : PieceAnswer) → piece_at s at first ≡ a
+      step : ((ts : List ℕ) (k m o : ℕ) → Low m o k → Sound m o (entries_of (packets_from s f false ts k).list)) → (t : Bool) (a : Result Piece Refusal) → piece_at s at first ≡ a
           → Sound n last (entries_of (pick t (on_piece s at types (λ now_types next. packets_from s f false now_types next) a) (none runs_out)).list)
       step ih false a q = nothing n last
-      step ih true (piece.Refused r) q = nothing n last
-      step ih true (piece.Whole x) q = on_whole at first x q n last low _ _ (by (eqb x.packet_type 0xFB))
+      step ih true (Err r) q = nothing n last
+      step ih true (Ok x) q = on_whole at first x q n last low _ _ (by (eqb x.packet_type 0xFB))
         where
           by : (t : Bool) (m o : ℕ) → Low m o (at + x.len)
               → Sound m o (entries_of (pick t (none closed) (packets_from s f false (types_after s at x types) (at + x.len))).list)

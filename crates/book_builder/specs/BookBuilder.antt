@@ -1,5 +1,5 @@
 -- The building of a seek book (01, "Stream, seek, book"): the entries of a stream's packets, the answer, and what the lent buffer holds then.
-use Rattle.std.specs.Prelude.{ℕ, ◌*◌, Bool, false, List, [], ◌∷◌, ◌++◌, length, get_or, drop, eqb, ltb}
+use Rattle.std.specs.Prelude.{ℕ, ◌*◌, Bool, false, List, [], ◌∷◌, ◌++◌, length, get_or, drop, eqb, ltb, Result, Ok, Err}
 use Rattle.packet.specs.Packet.{type_media}
 use Rattle.plate.specs.Choice.{pick}
 use Rattle.plate.specs.Plate.{refusal}
@@ -7,12 +7,10 @@ use Rattle.media_type.specs.MediaType.{known_type}
 use Rattle.field.specs.Field.{type_with, carries_two}
 use Rattle.piece.specs.declared.Piece.{Piece}
 use Rattle.stream.specs.Stream.{Placed, packets, check_of}
-use Rattle.stream.specs.declared.CheckAnswer.{CheckAnswer}
-use Rattle.stream.specs.declared.CheckAnswer.TheVariants as check
 use Rattle.book.specs.Book.{book_bytes}
 use Rattle.book.specs.declared.Entry.{Entry}
-use Rattle.book_builder.specs.declared.BuildAnswer.{BuildAnswer}
-use Rattle.book_builder.specs.declared.BuildAnswer.TheVariants as build
+use Rattle.plate.specs.declared.Refusal.{Refusal}
+use Rattle.plate.specs.declared.Fault.TheVariants as fault
 
 -- a packet has a record if it is media of known type
 unfoldable pub recorded : Piece → Bool
@@ -35,17 +33,17 @@ unfoldable pub entries_in : List ℕ → List Entry
 entries_in s = entries_of (packets s).list
 
 -- the check's refusal first; then 13 exactly when the room is under 16 times the records; else their number
-abbrev pub in_room : ℕ → ℕ → CheckAnswer → BuildAnswer
-in_room room n (check.Refused r) = build.Refused r
-in_room room n (check.Packets k) = pick (ltb room (16 * n)) (build.Refused (refusal 13 0)) (build.Records n)
+abbrev pub in_room : ℕ → ℕ → Result ℕ Refusal → Result ℕ Refusal
+in_room room n (Err r) = Err r
+in_room room n (Ok k) = pick (ltb room (16 * n)) (Err (refusal fault.Room 0)) (Ok n)
 
-unfoldable pub build_answer : List ℕ → List ℕ → BuildAnswer
+unfoldable pub build_answer : List ℕ → List ℕ → Result ℕ Refusal
 build_answer l s = in_room (length l) (length (entries_in s)) (check_of s)
 
 -- the records at the buffer's start, if there was no refusal; all else stays
-abbrev pub records_written_in : List ℕ → List ℕ → BuildAnswer → List ℕ
-records_written_in l bytes (build.Refused r) = l
-records_written_in l bytes (build.Records n) = bytes ++ drop (length bytes) l
+abbrev pub records_written_in : List ℕ → List ℕ → Result ℕ Refusal → List ℕ
+records_written_in l bytes (Err r) = l
+records_written_in l bytes (Ok n) = bytes ++ drop (length bytes) l
 
 unfoldable pub built_in : List ℕ → List ℕ → List ℕ
 built_in l s = records_written_in l (book_bytes (entries_in s)) (build_answer l s)

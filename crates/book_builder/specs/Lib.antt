@@ -2,4 +2,3 @@ pub mod BookBuilder
 pub mod Inside
 pub mod Lacking
 pub mod OddFields
-pub mod Same

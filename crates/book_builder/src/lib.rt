@@ -13,35 +13,20 @@ ghost use Rattle.book_builder.specs.Inside.{Accepted};
 use book::Entry;
 use map_tracks::Types;
 use piece::Piece;
-use plate::Refusal;
-use stream::CheckAnswer;
-
-// A book of so many records was written.
-#[derive(Clone, Copy)]
-pub enum BuildAnswer {
-    Records(usize),
-    Refused(Refusal),
-}
+use plate::{Fault, Refusal};
 
 // Whether a packet has a record: media of known type.
 fn is_recorded(x: Piece) -> bool
     ensures { result ≡ recorded x }
 {
-    let media_type = x.media_type;
-    if x.packet_type != packet::MEDIA {
-        return false;
-    }
-    media_type::is_known(media_type)
+    x.packet_type == packet::MEDIA && media_type::is_known(x.media_type)
 }
 
 // How many records a packet has.
 fn records_of(x: Piece) -> usize
     ensures { result ≡ pick (recorded x) 1 0 }
 {
-    if is_recorded(x) {
-        return 1;
-    }
-    0
+    if is_recorded(x) { 1 } else { 0 }
 }
 
 // The number of records of a stream that the check accepts.
@@ -53,9 +38,8 @@ fn count(s: &[u8]) -> usize
     let mut n: usize = 0;
     while at < s.len() {
         let x = piece::seen_at(s, at);
-        let e = at + x.len;
         n += records_of(x);
-        at = e;
+        at += x.len;
     }
     n
 }
@@ -78,8 +62,7 @@ fn marked_type(x: Piece, listed: u8) -> u8
     requires { known_type x.media_type ≡ true }
     ensures { result ≡ type_with (carries_two listed x.field) x.media_type }
 {
-    let media_type = x.media_type;
-    field::type_with(field::carries_two(listed, x.field as u64), media_type)
+    field::type_with(field::carries_two(listed, x.field as u64), x.media_type)
 }
 
 // Writes the record of a packet at an offset, if it has one; the place after it.
@@ -116,30 +99,24 @@ fn write(out: &mut [u8], s: &[u8])
     };
     while at < s.len() {
         let x = piece::seen_at(s, at);
-        let packet_type = x.packet_type;
         let e = at + x.len;
-        if packet_type == packet::MAP {
+        if x.packet_type == packet::MAP {
             types = map::types_of(&s[at..e]);
         }
-        let k = number::wide(x.track);
-        to = put_records(out, to, x, at, types.media_types[k]);
+        to = put_records(out, to, x, at, types.media_types[x.track as usize]);
         at = e;
     }
 }
 
 // The book of a stream: the check's refusal first, then 13 where the buffer is too small, else the records, written, and their number.
-pub fn build(out: &mut [u8], s: &[u8]) -> BuildAnswer
+pub fn build(out: &mut [u8], s: &[u8]) -> Result<usize, Refusal>
     ensures { (result ≡ build_answer out.old s.now) × (out.new ≡ built_in out.old s.now) }
 {
-    match stream::check(s) {
-        CheckAnswer::Refused(r) => BuildAnswer::Refused(r),
-        CheckAnswer::Packets(_) => {
-            let n = count(s);
-            if out.len() / 16 < n {
-                return BuildAnswer::Refused(plate::refuse(plate::ROOM, 0));
-            }
-            write(out, s);
-            BuildAnswer::Records(n)
-        }
+    stream::check(s)?;
+    let n = count(s);
+    if out.len() / 16 < n {
+        return Err(plate::refuse(Fault::Room, 0));
     }
+    write(out, s);
+    Ok(n)
 }

@@ -5,7 +5,7 @@ ghost use Rattle.std.specs.Prelude.{◌≤◌, ◌≡◌, length};
 ghost use Rattle.io.specs.Counts.{IsPrefixLen};
 ghost use Rattle.console.specs.Bits.{bits_of};
 
-use plate::Refusal;
+use plate::{Fault, Refusal};
 use std::fs::File;
 use std::io::Read;
 use std::rt::Files;
@@ -42,9 +42,9 @@ pub fn refused(r: Refusal)
     ensures { result ≡ tt }
 {
     say(b"refused");
-    figure(r.number as u64);
+    figure(r.fault.number() as u64);
     figure(r.place as u64);
-    if r.number == plate::TORN {
+    if r.fault == Fault::Torn {
         figure(r.lacking as u64);
     }
 }
@@ -63,15 +63,8 @@ fn fill<F: Read>(file: &mut F, buffer: &mut [u8]) -> usize
     let mut done = 0;
     while done < buffer.len() {
         match file.read(&mut buffer[done..]) {
-            Ok(n) => {
-                if n == 0 {
-                    return done;
-                }
-                done += n;
-            }
-            Err(_) => {
-                return done;
-            }
+            Ok(0) | Err(_) => return done,
+            Ok(n) => done += n,
         }
     }
     done
@@ -91,10 +84,7 @@ pub fn load<R: Files + Eprint>(rt: &R, path: &[u8], buffer: &mut [u8]) -> usize
         return 0;
     };
     match File::open(rt, name) {
-        Ok(opened) => {
-            let mut file = opened;
-            fill(&mut file, buffer)
-        }
+        Ok(mut file) => fill(&mut file, buffer),
         Err(why) => {
             complain(rt, name, why);
             0
@@ -107,8 +97,7 @@ pub fn bits_of(x: f64) -> u64
     ensures { result ≡ bits_of x }
 {
     if x == x {
-        let n = f64::to_bits(x);
-        return n;
+        return x.to_bits();
     }
     0
 }

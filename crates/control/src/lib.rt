@@ -9,9 +9,6 @@ ghost use Rattle.stream.specs.Stream.{seek_of};
 ghost use Rattle.control.specs.Control.{header_for_c, position_for_c, seek_for_c};
 
 use for_c::GxfValue;
-use locator::PositionAnswer;
-use packet::PacketAnswer;
-use stream::SeekAnswer;
 
 // What a header says: the packet's type, and its length with the header.
 #[repr(C)]
@@ -30,29 +27,20 @@ pub extern "C" fn gxf_header(s: &[u8], at: usize) -> GxfPacket
     ensures { result ≡ header_for_c (header_at s.now at) }
 {
     match packet::header(s, at) {
-        PacketAnswer::Whole(p) => {
-            let packet_type = p.packet_type as u64;
-            let len = p.len as u64;
-            GxfPacket {
-                number: 0,
-                place: 0,
-                lacking: 0,
-                packet_type,
-                len,
-            }
-        }
-        PacketAnswer::Refused(r) => {
-            let number = r.number as u64;
-            let place = r.place as u64;
-            let lacking = r.lacking as u64;
-            GxfPacket {
-                number,
-                place,
-                lacking,
-                packet_type: 0,
-                len: 0,
-            }
-        }
+        Ok(p) => GxfPacket {
+            number: 0,
+            place: 0,
+            lacking: 0,
+            packet_type: p.packet_type as u64,
+            len: p.len as u64,
+        },
+        Err(r) => GxfPacket {
+            number: r.fault.number() as u64,
+            place: r.place as u64,
+            lacking: r.lacking as u64,
+            packet_type: 0,
+            len: 0,
+        },
     }
 }
 
@@ -62,8 +50,8 @@ pub extern "C" fn gxf_position(s: &[u8], at: usize, distance: u64) -> GxfValue
     ensures { result ≡ position_for_c (position_at s.now at distance) }
 {
     match locator::position(s, at, distance) {
-        PositionAnswer::At(o) => for_c::answered(o),
-        PositionAnswer::Refused(r) => for_c::refused(r),
+        Ok(o) => for_c::answered(o),
+        Err(r) => for_c::refused(r),
     }
 }
 
@@ -72,8 +60,5 @@ pub extern "C" fn gxf_position(s: &[u8], at: usize, distance: u64) -> GxfValue
 pub extern "C" fn gxf_seek(s: &[u8], track: u64, field: u64) -> GxfValue
     ensures { result ≡ seek_for_c (seek_of s.now track field) }
 {
-    match stream::seek(s, track, field) {
-        SeekAnswer::At(o) => for_c::answered(o as u64),
-        SeekAnswer::Refused(r) => for_c::refused(r),
-    }
+    for_c::value(stream::seek(s, track, field))
 }

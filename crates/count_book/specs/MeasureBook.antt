@@ -1,9 +1,8 @@
 -- What C sees of the answer whose instructions are counted (docs/DECISIONS.md, S24): the value is the number of records; the buffer is the builder's.
-use Rattle.book_builder.specs.declared.BuildAnswer.{BuildAnswer}
-use Rattle.book_builder.specs.declared.BuildAnswer.TheVariants as build
+use Rattle.std.specs.Prelude.{ℕ, Result}
 use Rattle.for_c.specs.declared.GxfValue.{GxfValue}
-use Rattle.for_c.specs.ForC.{answered_for_c, refused_for_c}
+use Rattle.plate.specs.declared.Refusal.{Refusal}
+use Rattle.for_c.specs.ForC.{value_for_c}
 
-unfoldable pub build_reading : BuildAnswer → GxfValue
-build_reading (build.Records n) = answered_for_c n
-build_reading (build.Refused r) = refused_for_c r
+unfoldable pub build_reading : Result ℕ Refusal → GxfValue
+build_reading = value_for_c

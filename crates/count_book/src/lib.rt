@@ -5,7 +5,6 @@ ghost use Rattle.std.specs.Prelude.{◌≡◌};
 ghost use Rattle.book_builder.specs.BookBuilder.{build_answer, built_in};
 ghost use Rattle.count_book.specs.MeasureBook.{build_reading};
 
-use book_builder::BuildAnswer;
 use for_c::GxfValue;
 
 // The number of records of the book that was written.
@@ -13,8 +12,5 @@ use for_c::GxfValue;
 pub extern "C" fn gxf_build(out: &mut [u8], s: &[u8]) -> GxfValue
     ensures { (result ≡ build_reading (build_answer out.old s.now)) × (out.new ≡ built_in out.old s.now) }
 {
-    match book_builder::build(out, s) {
-        BuildAnswer::Records(n) => for_c::answered(n as u64),
-        BuildAnswer::Refused(r) => for_c::refused(r),
-    }
+    for_c::value(book_builder::build(out, s))
 }

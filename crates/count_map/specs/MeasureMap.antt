@@ -1,28 +1,24 @@
 -- What C sees of the answer whose instructions are counted (docs/DECISIONS.md, S24): count and material, so that no compiler can leave out a part.
-use Rattle.std.specs.Prelude.{ℕ}
+use Rattle.std.specs.Prelude.{ℕ, Option, Some, None, Result, Ok, Err}
+use Rattle.plate.specs.Plate.{number}
 use Rattle.plate.specs.declared.Refusal.{Refusal}
-use Rattle.map_items.specs.declared.Part.{Part}
-use Rattle.map_items.specs.declared.Part.TheVariants as part
-use Rattle.map_answer.specs.declared.Value.{Value}
-use Rattle.map_answer.specs.declared.Value.TheVariants as value
 use Rattle.map.specs.declared.MapSays.{MapSays}
-use Rattle.map.specs.declared.MapAnswer.{MapAnswer}
-use Rattle.map.specs.declared.MapAnswer.TheVariants as map
 use Rattle.count_map.specs.declared.GxfMap.{GxfMap}
+use Rattle.map_items.specs.declared.Part.{Part}
 
 -- a number of a map is under 2^32; all ones stands for none
-abbrev pub or_none : Value → ℕ
-or_none (value.Is n) = n
-or_none value.Absent = 0xFFFFFFFFFFFFFFFF
+abbrev pub or_none : Option ℕ → ℕ
+or_none (Some n) = n
+or_none None = 0xFFFFFFFFFFFFFFFF
 
 -- of no part both are 0; a text of an accepted map has one byte at least
-abbrev pub place_of : Part → ℕ
-place_of (part.At p n) = p
-place_of part.Absent = 0
+abbrev pub place_of : Option Part → ℕ
+place_of (Some p) = p.at
+place_of None = 0
 
-abbrev pub length_of : Part → ℕ
-length_of (part.At p n) = n
-length_of part.Absent = 0
+abbrev pub length_of : Option Part → ℕ
+length_of (Some p) = p.len
+length_of None = 0
 
 abbrev pub accepted_for_c : MapSays → GxfMap
 accepted_for_c m =
@@ -43,7 +39,7 @@ accepted_for_c m =
 abbrev pub refused_for_c : Refusal → GxfMap
 refused_for_c r =
     record {
-      number = r.number;
+      number = number r;
       place = r.place;
       lacking = r.lacking;
       count = 0;
@@ -56,6 +52,6 @@ refused_for_c r =
       size = 0;
     }
 
-unfoldable pub map_for_c : MapAnswer → GxfMap
-map_for_c (map.Says m) = accepted_for_c m
-map_for_c (map.Refused r) = refused_for_c r
+unfoldable pub map_for_c : Result MapSays Refusal → GxfMap
+map_for_c (Ok m) = accepted_for_c m
+map_for_c (Err r) = refused_for_c r

@@ -5,8 +5,7 @@ ghost use Rattle.std.specs.Prelude.{◌≡◌};
 ghost use Rattle.map.specs.Map.{map_at};
 ghost use Rattle.count_map.specs.MeasureMap.{or_none, place_of, length_of, accepted_for_c, refused_for_c, map_for_c};
 
-use map::{MapAnswer, MapSays};
-use map_answer::Value;
+use map::MapSays;
 use map_items::Part;
 use plate::Refusal;
 
@@ -31,30 +30,30 @@ pub struct GxfMap {
     pub size: u64,
 }
 
-fn or_none(v: Value) -> u64
+fn or_none(v: Option<u32>) -> u64
     ensures { result ≡ or_none v }
 {
     match v {
-        Value::Is(n) => n as u64,
-        Value::Absent => NONE,
+        Some(n) => n as u64,
+        None => NONE,
     }
 }
 
-fn place_of(p: Part) -> u64
+fn place_of(p: Option<Part>) -> u64
     ensures { result ≡ place_of p }
 {
     match p {
-        Part::At(at, _) => at as u64,
-        Part::Absent => 0,
+        Some(part) => part.at as u64,
+        None => 0,
     }
 }
 
-fn length_of(p: Part) -> u64
+fn length_of(p: Option<Part>) -> u64
     ensures { result ≡ length_of p }
 {
     match p {
-        Part::At(_, n) => n as u64,
-        Part::Absent => 0,
+        Some(part) => part.len as u64,
+        None => 0,
     }
 }
 
@@ -63,24 +62,18 @@ fn accepted(m: MapSays) -> GxfMap
     ensures { result ≡ accepted_for_c m }
 {
     let material = m.material;
-    let name = material.name;
-    let first = material.first;
-    let last = material.last;
-    let mark_in = material.mark_in;
-    let mark_out = material.mark_out;
-    let size = material.size;
     GxfMap {
         number: 0,
         place: 0,
         lacking: 0,
         count: m.count as u64,
-        name: place_of(name),
-        name_length: length_of(name),
-        first: or_none(first),
-        last: or_none(last),
-        mark_in: or_none(mark_in),
-        mark_out: or_none(mark_out),
-        size: or_none(size),
+        name: place_of(material.name),
+        name_length: length_of(material.name),
+        first: or_none(material.first),
+        last: or_none(material.last),
+        mark_in: or_none(material.mark_in),
+        mark_out: or_none(material.mark_out),
+        size: or_none(material.size),
     }
 }
 
@@ -89,7 +82,7 @@ fn refused(r: Refusal) -> GxfMap
     ensures { result ≡ refused_for_c r }
 {
     GxfMap {
-        number: r.number as u64,
+        number: r.fault.number() as u64,
         place: r.place as u64,
         lacking: r.lacking as u64,
         count: 0,
@@ -109,7 +102,7 @@ pub extern "C" fn gxf_map(s: &[u8]) -> GxfMap
     ensures { result ≡ map_for_c (map_at s.now 0) }
 {
     match map::read(s, 0) {
-        MapAnswer::Says(m) => accepted(m),
-        MapAnswer::Refused(r) => refused(r),
+        Ok(m) => accepted(m),
+        Err(r) => refused(r),
     }
 }

@@ -2,13 +2,13 @@
 #![tactic(auto)]
 
 ghost use Rattle.std.specs.Prelude.{◌≡◌};
-ghost use Rattle.for_c.specs.ForC.{answered_for_c, refused_for_c};
+ghost use Rattle.for_c.specs.ForC.{answered_for_c, refused_for_c, value_for_c};
 
 use plate::Refusal;
 
 // Number 0, place 0, lacking 0 and the value; or a number of the plate, its place, the bytes lacking, and 0.
 #[repr(C)]
-#[derive(Clone, Copy)]
+#[derive(Clone, Copy, PartialEq, Eq, Debug)]
 pub struct GxfValue {
     pub number: u64,
     pub place: u64,
@@ -33,9 +33,19 @@ pub fn refused(r: Refusal) -> GxfValue
     ensures { result ≡ refused_for_c r }
 {
     GxfValue {
-        number: r.number as u64,
+        number: r.fault.number() as u64,
         place: r.place as u64,
         lacking: r.lacking as u64,
         value: 0,
+    }
+}
+
+// Of a call that counts or gives an offset, or was refused.
+pub fn value(answer: Result<usize, Refusal>) -> GxfValue
+    ensures { result ≡ value_for_c answer }
+{
+    match answer {
+        Ok(v) => answered(v as u64),
+        Err(r) => refused(r),
     }
 }

@@ -2,32 +2,17 @@
 #![tactic(auto)]
 
 use console::say;
-use packet::PacketAnswer;
 use plate::Refusal;
-use stream::CheckAnswer;
 
 fn print_type(packet_type: u8) {
-    if packet_type == packet::MAP {
-        say(b"map");
-        return;
+    match packet_type {
+        packet::MAP => say(b"map"),
+        packet::MEDIA => say(b"media"),
+        packet::EOS => say(b"eos"),
+        packet::FLT => say(b"flt"),
+        packet::UMF => say(b"umf"),
+        _ => say(b"other"),
     }
-    if packet_type == packet::MEDIA {
-        say(b"media");
-        return;
-    }
-    if packet_type == packet::EOS {
-        say(b"eos");
-        return;
-    }
-    if packet_type == packet::FLT {
-        say(b"flt");
-        return;
-    }
-    if packet_type == packet::UMF {
-        say(b"umf");
-        return;
-    }
-    say(b"other");
 }
 
 // The one line of a stream that is refused.
@@ -53,31 +38,19 @@ fn print_count(n: usize) {
 // The n packets of an accepted stream.
 fn packets(s: &[u8], n: usize) {
     let mut at: usize = 0;
-    let mut k: usize = 0;
-    while k < n {
-        match packet::header(s, at) {
-            PacketAnswer::Whole(p) => {
-                let len = p.len;
-                let packet_type = p.packet_type;
-                print_packet(at, packet_type, len);
-                at += len;
-            }
-            PacketAnswer::Refused(_) => {
-                return;
-            }
-        }
-        k += 1;
+    for _ in 0..n {
+        let Ok(p) = packet::header(s, at) else {
+            return;
+        };
+        print_packet(at, p.packet_type, p.len);
+        at += p.len;
     }
     print_count(n);
 }
 
 pub fn list(s: &[u8]) {
     match stream::check(s) {
-        CheckAnswer::Packets(n) => {
-            packets(s, n);
-        }
-        CheckAnswer::Refused(r) => {
-            refused(r);
-        }
+        Ok(n) => packets(s, n),
+        Err(r) => refused(r),
     }
 }

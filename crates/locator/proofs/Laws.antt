@@ -7,12 +7,13 @@ use native.Mathlib.Omega.{arith}
 use borrow.Author.Tests.{ltb-false, eqb-false}
 use lib.ListN.{length}
 use lib.Dec.{ltb, eqb}
+use Rattle.std.specs.Prelude.{Result, Ok}
 use Rattle.plate.specs.Choice.{pick}
 use Rattle.number.specs.Number.{le}
 use Rattle.locator.specs.Locator.{table_of, no_table}
 use Rattle.locator.specs.declared.Locator.{Locator}
-use Rattle.locator.specs.declared.LocatorAnswer.{LocatorAnswer}
-use Rattle.locator.specs.declared.LocatorAnswer.TheVariants.{Table}
+use Rattle.plate.specs.declared.Fault.{Fault}
+use Rattle.plate.specs.declared.Refusal.{Refusal}
 
 pub record Good (p : List ℕ) (t : Locator) : Type 0 where
   pub steps : 0 < t.step
@@ -20,11 +21,11 @@ pub record Good (p : List ℕ) (t : Locator) : Type 0 where
   pub within : 24 + 4 * t.count ≤ length p
 
 -- a choice that is a table, where its first branch is a refusal, came by the second
-else_table : (b : Bool) (n : ℕ) (y : LocatorAnswer) (t : Locator) → pick b (no_table n) y ≡ Table t → (b ≡ false) × (y ≡ Table t)
-else_table true n y t e = let z : ◌≡◌ {A = ℕ} 0 1 = cc in absurd (omega arith)
-else_table false n y t e = (refl, e)
+else_table : (b : Bool) (f : Fault) (y : Result Locator Refusal) (t : Locator) → pick b (no_table f) y ≡ Ok t → (b ≡ false) × (y ≡ Ok t)
+else_table true f y t e = let z : ◌≡◌ {A = ℕ} 0 1 = cc in absurd (omega arith)
+else_table false f y t e = (refl, e)
 
-pub taken : (p : List ℕ) (t : Locator) → table_of p ≡ Table t → Good p t
+pub taken : (p : List ℕ) (t : Locator) → table_of p ≡ Ok t → Good p t
 unfolding table_of
 taken p t e =
     let a = else_table (ltb (length p - 16) 8) _ _ _ e in

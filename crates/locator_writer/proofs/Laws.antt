@@ -6,15 +6,16 @@ use mathlib.Core.List.{List, [], ◌∷◌, ◌++◌, append_assoc, append-nil}
 use native.Mathlib.Omega.{arith}
 use native.Mathlib.Numerals.{add-one}
 use lib.Dec.{ltb}
-use borrow.Author.Tests.{le-ltb, lt-ltb}
-use lib.ListN.{length, get_or, take, drop, length-append}
-use lib.Seq.{sets, take-suc, drop-cons, length-take-le}
+use borrow.Author.Tests.{le-ltb}
+use lib.ListN.{length, get_or, take, length-append}
+use lib.Seq.{sets, take-suc, length-take-le}
+use Rattle.std.specs.Prelude.{Ok}
 use Rattle.number.specs.Number.{be_bytes, le_bytes}
 use Rattle.number.proofs.Laws.{length-le_bytes}
 use Rattle.number.proofs.Stores.{sets_append}
-use Rattle.locator_writer.specs.Write.{entry_bytes, length_of, locator_packet, all_fit, may_write, locator_answer, locator_written_in}
+use Rattle.locator_writer.specs.Write.{entry_bytes, length_of, locator_packet, may_write, locator_answer, locator_written_in}
 use Rattle.packet_writer.specs.Write.{header_of, over, refused}
-use Rattle.packet_writer.specs.declared.WriteAnswer.TheVariants.{Length}
+use Rattle.plate.specs.declared.Fault.TheVariants as fault
 
 pub length_entries : (ns : List ℕ) → length (entry_bytes ns) ≡ 4 * length ns
 unfolding entry_bytes
@@ -43,27 +44,17 @@ pub length-packet : (step : ℕ) (ns : List ℕ) → length (locator_packet step
 unfolding locator_packet header_of be_bytes le_bytes
 length-packet step ns = omega (arith, length_entries ns)
 
--- an offset that fits leaves the rest to judge; one that does not decides it
-module _ (ns : List ℕ) (i : ℕ) (h : i < length ns) where
-  pub fit_on : get_or ns i 0 ≤ 0xFFFFFFFF → all_fit (drop i ns) ≡ all_fit (drop (i + 1) ns)
-  unfolding all_fit
-  fit_on k = rw (drop-cons ns i 0 h, add-one) (simp (le-ltb 0xFFFFFFFF (get_or ns i 0) k))
-
-  pub fit_off : 0xFFFFFFFF < get_or ns i 0 → all_fit (drop i ns) ≡ false
-  unfolding all_fit
-  fit_off k = rw (drop-cons ns i 0 h) (simp (lt-ltb 0xFFFFFFFF (get_or ns i 0) k))
-
 -- the three outcomes
 module _ (out : List ℕ) (at step : ℕ) (ns : List ℕ) where
-  pub barred : may_write step ns ≡ false → (locator_answer out at step ns ≡ refused 24) × (locator_written_in out at step ns ≡ out)
+  pub barred : may_write step ns ≡ false → (locator_answer out at step ns ≡ refused fault.Barred) × (locator_written_in out at step ns ≡ out)
   unfolding locator_answer locator_written_in
   barred e = simp e (refl, refl)
 
-  pub no_room : may_write step ns ≡ true → ltb (length out - at) (length_of ns) ≡ true → (locator_answer out at step ns ≡ refused 13) × (locator_written_in out at step ns ≡ out)
+  pub no_room : may_write step ns ≡ true → ltb (length out - at) (length_of ns) ≡ true → (locator_answer out at step ns ≡ refused fault.Room) × (locator_written_in out at step ns ≡ out)
   unfolding locator_answer locator_written_in
   no_room e h = simp (e, h) (refl, refl)
 
   pub wrote : may_write step ns ≡ true → at + length_of ns ≤ length out
-      → (locator_answer out at step ns ≡ Length (length_of ns)) × (locator_written_in out at step ns ≡ over out at (locator_packet step ns))
+      → (locator_answer out at step ns ≡ Ok (length_of ns)) × (locator_written_in out at step ns ≡ over out at (locator_packet step ns))
   unfolding locator_answer locator_written_in
   wrote e h = simp (e, le-ltb (length out - at) (length_of ns) (omega arith)) (refl, refl)

@@ -1,11 +1,12 @@
 -- Writing a field locator table (RDD 14, clause 6 and Table 2, clause 7.2 and Table 14; 01, "Writers" and "FLT and media"):
 -- the bytes of the packet, the answer, and what the buffer then holds.
-use Rattle.std.specs.Prelude.{ℕ, ◌+◌, ◌*◌, List, [], ◌∷◌, ◌++◌, Bool, true, false, length, ltb, eqb}
+use Rattle.std.specs.Prelude.{ℕ, ◌+◌, ◌*◌, List, [], ◌∷◌, ◌++◌, Bool, true, false, length, ltb, eqb, Result}
 use Rattle.packet.specs.Packet.{type_flt}
 use Rattle.plate.specs.Choice.{pick}
 use Rattle.number.specs.Number.{le_bytes}
 use Rattle.packet_writer.specs.Write.{header_of, refused, if_room, buffer_after}
-use Rattle.packet_writer.specs.declared.WriteAnswer.{WriteAnswer}
+use Rattle.plate.specs.declared.Refusal.{Refusal}
+use Rattle.plate.specs.declared.Fault.TheVariants as fault
 
 -- Table 14: the entries, four bytes each, least significant first
 unfoldable pub entry_bytes : List ℕ → List ℕ
@@ -30,9 +31,9 @@ unfoldable pub may_write : ℕ → List ℕ → Bool
 may_write step ns = pick (eqb step 0) false (pick (ltb 0xFFFFFFFF step) false (pick (ltb 1000 (length ns)) false (all_fit ns)))
 
 -- 24, then 13; else the packet's length
-unfoldable pub locator_answer : List ℕ → ℕ → ℕ → List ℕ → WriteAnswer
+unfoldable pub locator_answer : List ℕ → ℕ → ℕ → List ℕ → Result ℕ Refusal
 locator_answer out at step ns =
-    pick (may_write step ns) (if_room out at (length_of ns)) (refused 24)
+    pick (may_write step ns) (if_room out at (length_of ns)) (refused fault.Barred)
 
 -- what the buffer then holds
 unfoldable pub locator_written_in : List ℕ → ℕ → ℕ → List ℕ → List ℕ

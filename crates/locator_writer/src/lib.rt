@@ -6,36 +6,21 @@ ghost use Rattle.std.specs.Prelude.{◌≡◌, ◌+◌, ◌*◌, ◌≤◌, leng
 ghost use Rattle.std.proofs.lemmas.List.Edits.{sets};
 ghost use Rattle.locator_writer.specs.Write.{all_fit, may_write, entry_bytes, locator_packet, locator_answer, locator_written_in};
 
-use packet_writer::WriteAnswer;
+use plate::{Fault, Refusal};
 
 // Whether every offset fits its four bytes.
 fn all_fit(offsets: &[u64]) -> bool
     ensures { result ≡ all_fit offsets.now }
 {
-    let mut i: usize = 0;
-    while i < offsets.len() {
-        if 0xFFFF_FFFF < offsets[i] {
-            return false;
-        }
-        i += 1;
-    }
-    true
+    offsets.iter().all(|n| *n <= 0xFFFF_FFFF)
 }
 
 // Whether a table of this step and these offsets may be written: else 24.
+#[tactic(auto, unfolding(crate::specs::Write::may_write))]
 fn may_write(step: u64, offsets: &[u64]) -> bool
     ensures { result ≡ may_write step offsets.now }
 {
-    if step == 0 {
-        return false;
-    }
-    if 0xFFFF_FFFF < step {
-        return false;
-    }
-    if 1000 < offsets.len() {
-        return false;
-    }
-    all_fit(offsets)
+    step != 0 && step <= 0xFFFF_FFFF && offsets.len() <= 1000 && all_fit(offsets)
 }
 
 // Writes the entries, from a place on.
@@ -43,10 +28,8 @@ fn put_entries(out: &mut [u8], at: usize, offsets: &[u64])
     requires { at + 4 * length offsets.now ≤ length out.old }
     ensures { out.new ≡ sets out.old at (entry_bytes offsets.now) }
 {
-    let mut k: usize = 0;
-    while k < offsets.len() {
-        number::put_le(out, at + 4 * k, offsets[k] as usize, 4);
-        k += 1;
+    for (k, n) in offsets.iter().enumerate() {
+        number::put_le(out, at + 4 * k, *n as usize, 4);
     }
 }
 
@@ -62,16 +45,16 @@ fn put_packet(out: &mut [u8], step: u64, offsets: &[u64])
 }
 
 // Writes the packet at a place of the buffer, offsets in units of 1,024 bytes: refusals 24 and 13, in this order.
-pub fn write(out: &mut [u8], at: usize, step: u64, offsets: &[u64]) -> WriteAnswer
+pub fn write(out: &mut [u8], at: usize, step: u64, offsets: &[u64]) -> Result<usize, Refusal>
     ensures { (result ≡ locator_answer out.old at step offsets.now) × (out.new ≡ locator_written_in out.old at step offsets.now) }
 {
-    if may_write(step, offsets) {
-        let len = 24 + 4 * offsets.len();
-        if packet_writer::lacks_room(out.len(), at, len) {
-            return WriteAnswer::Refused(plate::refuse(plate::ROOM, 0));
-        }
-        put_packet(&mut out[at..], step, offsets);
-        return WriteAnswer::Length(len);
+    if !may_write(step, offsets) {
+        return Err(plate::refuse(Fault::Barred, 0));
     }
-    WriteAnswer::Refused(plate::refuse(plate::BARRED, 0))
+    let len = 24 + 4 * offsets.len();
+    if packet_writer::lacks_room(out.len(), at, len) {
+        return Err(plate::refuse(Fault::Room, 0));
+    }
+    put_packet(&mut out[at..], step, offsets);
+    Ok(len)
 }

@@ -7,10 +7,10 @@ use native.Mathlib.Nat.{add-zero, add-sub_cancel_left}
 use lib.ListN.{length, get_or, take, drop, replicate, length-append, length-replicate}
 use lib.Seq.{take-append_seam, drop_at, take_at, get_or_at}
 use borrow.Author.Tests.{le-ltb}
+use Rattle.std.specs.Prelude.{Ok}
 use Rattle.number.specs.Number.{be, be_bytes}
 use Rattle.number.proofs.Laws.{be_back, be-after, length-be_bytes}
 use Rattle.packet.specs.Packet.{header_at}
-use Rattle.packet.specs.declared.PacketAnswer.TheVariants.{Whole}
 use Rattle.packet.proofs.Laws.{accepts}
 use Rattle.map_items.specs.Items.{section_of, items_bytes}
 use Rattle.map_items.proofs.Split as items
@@ -19,7 +19,6 @@ use Rattle.map_tracks.specs.Tracks.{tracks_of, judge_tracks, tracks_verdict, ove
 use Rattle.map_tracks.proofs.Split.{Sized}
 use Rattle.map_tracks.proofs.Split as split
 use Rattle.map_items.specs.Judge.{and_then, judge_items, verdict_of}
-use Rattle.map_items.specs.declared.Verdict.TheVariants.{Accepted}
 use Rattle.map_items.proofs.Anywhere.{verdict_bytes}
 use Rattle.map_items.specs.declared.Section.TheVariants as section
 use Rattle.map.specs.Map.{after_material, layout_of, material_in, tracks_in, both_verdict, sections_verdict, map_verdict}
@@ -176,10 +175,10 @@ module _ (spare : List ℕ) (second : ℕ) (m t : List ℕ) (four : length spare
     unfolding packet_of front
     kinds = refl
 
-    pub header_encoded : header_at p 0 ≡ Whole (record { packet_type = 0xBC; len = packet_length m t })
+    pub header_encoded : header_at p 0 ≡ Ok (record { packet_type = 0xBC; len = packet_length m t })
     header_encoded =
         accepts p 0 (packet_length m t) leader trailer length_word long.1 long.2 (omega (arith, packet_length_lem))
-        ∙ ap (λ (k : ℕ). Whole (record { packet_type = k; len = packet_length m t })) kinds
+        ∙ ap (λ (k : ℕ). Ok (record { packet_type = k; len = packet_length m t })) kinds
 
     -- the reserved bytes and the version byte
     cut_7 : p ≡ six ++ be_bytes 4 (packet_length m t) ++ (spare ++ (0xE1 ∷ 0xE2 ∷ behind))
@@ -229,11 +228,11 @@ pub record Fit (p : MapParts) : Type 0 where
   pub each : Sized (map described p.tracks)
 
 module _ (p : MapParts) (f : Fit p) where
-  pub header_of_encoded : header_at (encode p) 0 ≡ Whole (record { packet_type = 0xBC; len = length (encode p) })
+  pub header_of_encoded : header_at (encode p) 0 ≡ Ok (record { packet_type = 0xBC; len = length (encode p) })
   unfolding encode
   header_of_encoded =
       header_encoded p.spare p.second (items_bytes p.material) (tracks.descriptions_bytes (map described p.tracks)) f.four f.material f.tracks
-      ∙ ap (λ (n : ℕ). Whole (record { packet_type = 0xBC; len = n })) (sym (packet_length_lem p.spare p.second (items_bytes p.material) (tracks.descriptions_bytes (map described p.tracks)) f.four))
+      ∙ ap (λ (n : ℕ). Ok (record { packet_type = 0xBC; len = n })) (sym (packet_length_lem p.spare p.second (items_bytes p.material) (tracks.descriptions_bytes (map described p.tracks)) f.four))
 
   pub material_of_encoded : section_of (material_in (encode p) (layout_of (encode p))) ≡ record { list = p.material; end = true }
   unfolding encode
@@ -272,7 +271,7 @@ module _ (p : MapParts) (f : Fit p) where
 
   -- and it is judged as they are
   pub verdict_of_encoded : map_verdict (encode p)
-      ≡ and_then (and_then (judge_items section.Material [] 20 p.material) Accepted) (judge_tracks [] (22 + length (items_bytes p.material)) (map described p.tracks) over)
+      ≡ and_then (and_then (judge_items section.Material [] 20 p.material) (Ok tt)) (judge_tracks [] (22 + length (items_bytes p.material)) (map described p.tracks) over)
   unfolding encode tracks_verdict
   verdict_of_encoded =
       verdict_encoded p.spare p.second (items_bytes p.material) (tracks.descriptions_bytes (map described p.tracks)) f.four f.material f.tracks

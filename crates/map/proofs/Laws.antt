@@ -7,16 +7,15 @@ use native.Mathlib.Omega.{arith}
 use lib.ListN.{length, length-take}
 use lib.Dec.{ltb}
 use borrow.Author.Tests.{ltb-false}
+use Rattle.std.specs.Prelude.{Some}
 use Rattle.plate.specs.Choice.{pick}
 use Rattle.number.specs.Number.{be}
 use Rattle.map.specs.Map.{after_material, layout_of, tracks_in, tracks_at, listed_in}
 use Rattle.plate.specs.Part.{part}
 use Rattle.map.specs.declared.Layout.{Layout}
 use Rattle.map.specs.declared.Layout.TheVariants.{Both, One, Neither}
-use Rattle.map_items.specs.declared.Part.TheVariants.{At}
 use Rattle.map_answer.specs.declared.Track.{Track}
 use Rattle.map_tracks.specs.Tracks.{id_of}
-use Rattle.map_tracks.specs.declared.Kth.TheVariants.{Record}
 use Rattle.map_tracks.proofs.Places.{name_stands}
 
 -- a layout whose ends stand in their order, up to a length
@@ -63,7 +62,7 @@ tracks_fit p = go (layout_of p) (layout_within p)
     go Neither w = omega arith
 
 -- the name of a listed track stands in the packet
-pub name_within : (p : List ℕ) (id : ℕ) (t : Track) (q n : ℕ) → id_of id (listed_in p) ≡ Record t → t.name ≡ At q n → q + n ≤ length p
+pub name_within : (p : List ℕ) (id : ℕ) (t : Track) (q n : ℕ) → id_of id (listed_in p) ≡ Some t → t.name ≡ Some (record { at = q; len = n }) → q + n ≤ length p
 unfolding listed_in
 name_within p id t q n e f =
     let a = name_stands id (tracks_at (layout_of p)) (tracks_in p (layout_of p)) t q n e f in

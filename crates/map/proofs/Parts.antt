@@ -8,6 +8,7 @@ use lib.ListN.{length, get_or, drop, length-drop}
 use lib.Seq.{length-take-le}
 use lib.Dec.{ltb, eqb}
 use borrow.Author.Tests.{ltb-false, eqb-true}
+use Rattle.std.specs.Prelude.{Ok}
 use Rattle.plate.specs.Choice.{pick}
 use Rattle.number.specs.Number.{be}
 use Rattle.number.proofs.Laws.{Bytes, be_lt}
@@ -15,7 +16,6 @@ use Rattle.number.proofs.Bytes.{one_by_one, bytes_take, bytes_drop}
 use Rattle.map_items.specs.Items.{section_of, items_bytes}
 use Rattle.map_items.specs.Judge.{bad, and_then, judge_items, verdict_of}
 use Rattle.map_items.specs.declared.Section.TheVariants as section
-use Rattle.map_items.specs.declared.Verdict.TheVariants.{Accepted}
 use Rattle.map_items.proofs.Split as items
 use Rattle.map_items.proofs.Anywhere.{not_accepted, both_accepted, judge_anywhere, verdict_accepted}
 use Rattle.map_tracks.specs.Tracks.{Description, End, over, tracks_of, judge_tracks, tracks_verdict}
@@ -29,6 +29,7 @@ use Rattle.map.specs.Parts.{opened, parts_of}
 use Rattle.map.specs.Inside.{Good}
 use Rattle.map.specs.declared.Layout.{Layout}
 use Rattle.map.specs.declared.Layout.TheVariants.{Both, One, Neither}
+use Rattle.plate.specs.declared.Fault.TheVariants as fault
 use Rattle.map.proofs.Laws.{part_length}
 use Rattle.map.proofs.Encoded.{Fit, verdict_of_encoded}
 
@@ -39,31 +40,31 @@ pub record Sections (m : List ℕ) : Type 0 where
   pub long : 18 ≤ length m
   pub version : get_or m 16 0 ≡ 0xE0
   pub layout : layout_of m ≡ Both a e
-  pub material : verdict_of section.Material (part 20 a m) 20 ≡ Accepted
-  pub tracks : tracks_verdict (part (a + 2) e m) (a + 2) ≡ Accepted
+  pub material : verdict_of section.Material (part 20 a m) 20 ≡ (Ok tt)
+  pub tracks : tracks_verdict (part (a + 2) e m) (a + 2) ≡ (Ok tt)
 
-pub accepted_sections : (m : List ℕ) → map_verdict m ≡ Accepted → Sections m
+pub accepted_sections : (m : List ℕ) → map_verdict m ≡ (Ok tt) → Sections m
 unfolding map_verdict sections_verdict both_verdict
 accepted_sections m h = go (ltb (length m) 18) (eqb (get_or m 16 0) 0xE0) refl refl h
   where
-    on : (l : Layout) → layout_of m ≡ l → 18 ≤ length m → get_or m 16 0 ≡ 0xE0 → sections_verdict m l ≡ Accepted → Sections m
+    on : (l : Layout) → layout_of m ≡ l → 18 ≤ length m → get_or m 16 0 ≡ 0xE0 → sections_verdict m l ≡ (Ok tt) → Sections m
     on (Both a e) q k v h =
         let b = both_accepted (verdict_of section.Material (part 20 a m) 20) (tracks_verdict (part (a + 2) e m) (a + 2)) h in
         record { a = a; e = e; long = k; version = v; layout = q; material = b.0; tracks = b.1 }
-    on (One a) q k v h = not_accepted 8 a (both_accepted (verdict_of section.Material (part 20 a m) 20) (bad 8 a) h).1
-    on Neither q k v h = not_accepted 8 18 h
+    on (One a) q k v h = not_accepted fault.Overhang a (both_accepted (verdict_of section.Material (part 20 a m) 20) (bad fault.Overhang a) h).1
+    on Neither q k v h = not_accepted fault.Overhang 18 h
 
-    go : (x y : Bool) → ltb (length m) 18 ≡ x → eqb (get_or m 16 0) 0xE0 ≡ y → pick x (bad 8 16) (pick y (sections_verdict m (layout_of m)) (bad 7 16)) ≡ Accepted → Sections m
-    go true y q r h = not_accepted 8 16 h
+    go : (x y : Bool) → ltb (length m) 18 ≡ x → eqb (get_or m 16 0) 0xE0 ≡ y → pick x (bad fault.Overhang 16) (pick y (sections_verdict m (layout_of m)) (bad fault.MapVersion 16)) ≡ (Ok tt) → Sections m
+    go true y q r h = not_accepted fault.Overhang 16 h
     go false true q r h = on (layout_of m) refl (ltb-false _ _ q) (eqb-true _ _ r) h
-    go false false q r h = not_accepted 7 16 h
+    go false false q r h = not_accepted fault.MapVersion 16 h
 
 -- accepted tracks are whole, so their items are their bytes
 described_opened : (d : Description) → (section_of d.items).end ≡ true → described (opened d) ≡ d
 unfolding described opened
 described_opened d w = rw (items.section_whole d.items w)
 
-pub whole_tracks : (ids : List ℕ) (p : ℕ) (ds : List Description) (e : End) → judge_tracks ids p ds e ≡ Accepted → map described (map opened ds) ≡ ds
+pub whole_tracks : (ids : List ℕ) (p : ℕ) (ds : List Description) (e : End) → judge_tracks ids p ds e ≡ (Ok tt) → map described (map opened ds) ≡ ds
 whole_tracks ids p [] e h = refl
 whole_tracks ids p (d ∷ ds) e h =
     let w = passed ids p d ds e h in
@@ -91,14 +92,14 @@ both_words m a e = go (ltb (length m) 20) (ltb (length m - 20) (be m 18 2)) (ltb
         (sym r, rw (← r) (sym t))
 
 -- the parts of an accepted packet of bytes
-module _ (m : List ℕ) (b : Bytes m) (h : map_verdict m ≡ Accepted) where
+module _ (m : List ℕ) (b : Bytes m) (h : map_verdict m ≡ (Ok tt)) where
   s : Sections m
   s = accepted_sections m h
 
   ds : List Description
   ds = (tracks_of (part (s.a + 2) s.e m)).list
 
-  judged : judge_tracks [] (s.a + 2) ds (tracks_of (part (s.a + 2) s.e m)).end ≡ Accepted
+  judged : judge_tracks [] (s.a + 2) ds (tracks_of (part (s.a + 2) s.e m)).end ≡ (Ok tt)
   unfolding tracks_verdict ds
   judged = s.tracks
 
@@ -153,13 +154,13 @@ module _ (m : List ℕ) (b : Bytes m) (h : map_verdict m ≡ Accepted) where
       )
 
 -- a map put together is accepted where its parts are good, and only there
-pub good_encoded : (p : MapParts) → Fit p → Good p → map_verdict (encode p) ≡ Accepted
+pub good_encoded : (p : MapParts) → Fit p → Good p → map_verdict (encode p) ≡ (Ok tt)
 good_encoded p f g =
     verdict_of_encoded p f
     ∙ rw (judge_anywhere section.Material [] 0 20 p.material g.0, tracks_anywhere [] 0 (22 + length (items_bytes p.material)) (map described p.tracks) g.1)
 
-pub encoded_good : (p : MapParts) → Fit p → map_verdict (encode p) ≡ Accepted → Good p
+pub encoded_good : (p : MapParts) → Fit p → map_verdict (encode p) ≡ (Ok tt) → Good p
 encoded_good p f h =
-    let a = both_accepted (and_then (judge_items section.Material [] 20 p.material) Accepted) _ (sym (verdict_of_encoded p f) ∙ h) in
-    let b = both_accepted (judge_items section.Material [] 20 p.material) Accepted a.0 in
+    let a = both_accepted (and_then (judge_items section.Material [] 20 p.material) (Ok tt)) _ (sym (verdict_of_encoded p f) ∙ h) in
+    let b = both_accepted (judge_items section.Material [] 20 p.material) (Ok tt) a.0 in
     (judge_anywhere section.Material [] 20 0 p.material b.0, tracks_anywhere [] (22 + length (items_bytes p.material)) 0 (map described p.tracks) a.1)

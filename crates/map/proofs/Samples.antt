@@ -1,9 +1,7 @@
 -- The bench maps of 01 as bytes: M, M with an unknown item and M with a reserved rate, and what such maps say.
 use Prim.Native.Nat.{ℕ}
 use mathlib.Core.List.{List, [], ◌∷◌, ◌++◌}
-use Rattle.map_items.specs.declared.Part.TheVariants as part
-use Rattle.map_answer.specs.declared.Value.{Value}
-use Rattle.map_answer.specs.declared.Value.TheVariants as value
+use Rattle.std.specs.Prelude.{Option, None}
 use Rattle.map.specs.declared.MapSays.{MapSays}
 
 -- a header of a type and a length under 256
@@ -30,17 +28,17 @@ abbrev pub reserved : List ℕ
 reserved = headed 0xBC 0x2C ++ up_to_rate 0x0F 0x0B ++ rate_item 0x00 0x09 ++ (0 ∷ [])
 
 -- what a map says that lists so many tracks and has no material item but, perhaps, a first field
-abbrev pub saying : ℕ → Value → MapSays
+abbrev pub saying : ℕ → Option ℕ → MapSays
 saying n field =
     record {
       count = n;
       material =
           record {
-            name = part.Absent;
+            name = None;
             first = field;
-            last = value.Absent;
-            mark_in = value.Absent;
-            mark_out = value.Absent;
-            size = value.Absent;
+            last = None;
+            mark_in = None;
+            mark_out = None;
+            size = None;
           };
     }

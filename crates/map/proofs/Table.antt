@@ -4,15 +4,14 @@ use mathlib.Core.Path.{◌≡◌, refl, ap, ◌∙◌}
 use mathlib.Core.List.{List, []}
 use native.Mathlib.Omega.{arith}
 use lib.ListN.{get_or, replicate}
+use Rattle.std.specs.Prelude.{Some, Ok}
 use Rattle.plate.specs.Part.{part}
 use Rattle.media_type.proofs.Laws.{known_under}
 use Rattle.field.specs.Field.{has_mark, type_alone}
 use Rattle.field.proofs.Laws.{mark_back, type_back}
-use Rattle.map_items.specs.declared.Verdict.TheVariants as verdict
 use Rattle.map_answer.specs.declared.Track.{Track}
 use Rattle.map_tracks.specs.Tracks.{tracks_of, tracks_verdict, listed, id_of}
 use Rattle.map_tracks.specs.Table.{NoneProgressive}
-use Rattle.map_tracks.specs.declared.Kth.TheVariants as kth
 use Rattle.map_tracks.proofs.Table.{byte_for, table_says, Unmarked, plain_table, alone, listed_known}
 use Rattle.map.specs.Map.{listed_in, types_in, map_verdict}
 use Rattle.map.specs.Table.{Table}
@@ -35,7 +34,7 @@ pub empty_plain : Unmarked (replicate 64 0)
 unfolding has_mark
 empty_plain i = rw (empty_says i)
 
-says : (p : List ℕ) → map_verdict p ≡ verdict.Accepted → (id : ℕ) → id < 64 → get_or (types_in p) id 0 ≡ byte_for (id_of id (listed_in p)) 0
+says : (p : List ℕ) → map_verdict p ≡ (Ok tt) → (id : ℕ) → id < 64 → get_or (types_in p) id 0 ≡ byte_for (id_of id (listed_in p)) 0
 unfolding types_in listed_in tracks_verdict
 says p v id h =
     let s = accepted_sections p v in
@@ -43,7 +42,7 @@ says p v id h =
     let ds = tracks_of (part a s.e p) in
     rw s.layout (table_says id h [] a a ds.list ds.end s.tracks (replicate 64 0) refl ∙ ap (byte_for (id_of id (listed a ds.list))) (empty_says id))
 
-known_small : (p : List ℕ) (id : ℕ) (t : Track) → id_of id (listed_in p) ≡ kth.Record t → t.media_type < 64
+known_small : (p : List ℕ) (id : ℕ) (t : Track) → id_of id (listed_in p) ≡ Some t → t.media_type < 64
 unfolding listed_in
 known_small p id t e = omega (arith, known_under t.media_type (listed_known id _ _ t e))
 

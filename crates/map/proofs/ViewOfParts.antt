@@ -7,17 +7,15 @@ use native.Mathlib.Omega.{arith}
 use lib.ListN.{length, take, drop, length-append, take-append-drop}
 use lib.Seq.{length-take-le}
 use lib.Dec.{leb, eqb}
+use Rattle.std.specs.Prelude.{Option, None}
 use Rattle.plate.specs.Choice.{pick}
 use Rattle.plate.specs.Ended.{none, in_front}
 use Rattle.map_items.specs.Items.{Item, section_of, items_size, items_bytes}
 use Rattle.map_items.specs.Items as items
 use Rattle.map_items.specs.Find.{Found, missing, found, find, part_of, bytes_of}
-use Rattle.map_items.specs.declared.Part.TheVariants as part
 use Rattle.map_items.proofs.Lookup.{find_stands}
 use Rattle.map_items.proofs.Split.{section_front}
 use Rattle.map_answer.specs.Answer.{value_of, is_null, shown_bytes, material_of, track_of}
-use Rattle.map_answer.specs.declared.Value.{Value}
-use Rattle.map_answer.specs.declared.Value.TheVariants as value
 use Rattle.map_tracks.specs.Tracks.{Description, Placed, hangs, split_tracks, tracks_of, is_listed, listed, record_of}
 use Rattle.map.specs.Map.{layout_of, material_in, tracks_in, tracks_at, material_says, listed_in}
 use Rattle.plate.specs.Part.{part}
@@ -32,8 +30,8 @@ use Rattle.map.proofs.Encoded.{Fit, parts_of_encoded}
 use Rattle.map_answer.proofs.Laws.{value_anywhere}
 
 -- a number and a null name are told by the bytes, wherever they stand
-value_held : Held → Value
-value_held nothing = value.Absent
+value_held : Held → Option ℕ
+value_held nothing = None
 value_held (bytes n v) = value_of (found 0 v)
 
 value_held_lem : (x : Found) → value_of x ≡ value_held (held_of x)
@@ -85,12 +83,12 @@ module _ (p : List ℕ) (q : ℕ) (is : List Item) (pre post : List ℕ) (l : le
   null_there : is_null (part_of (find 0x4C q is)) ≡ is_null (part_of (find 0x4C 0 is))
   null_there = same_null _ _ (held_anywhere 0x4C q 0 is)
 
-  hidden_there : (tag : ℕ) → held_at p (pick (is_null (part_of (find 0x4C q is))) part.Absent (part_of (find tag q is)))
+  hidden_there : (tag : ℕ) → held_at p (pick (is_null (part_of (find 0x4C q is))) None (part_of (find tag q is)))
       ≡ pick (is_null (part_of (find 0x4C 0 is))) nothing (held_of (find tag 0 is))
   hidden_there tag = rw null_there (go (is_null (part_of (find 0x4C 0 is))) (held_there tag))
     where
       go : (b : Bool) → held_at p (part_of (find tag q is)) ≡ held_of (find tag 0 is)
-          → held_at p (pick b part.Absent (part_of (find tag q is))) ≡ pick b nothing (held_of (find tag 0 is))
+          → held_at p (pick b None (part_of (find tag q is))) ≡ pick b nothing (held_of (find tag 0 is))
       go true e = refl
       go false e = e
 

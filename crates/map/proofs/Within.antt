@@ -6,16 +6,14 @@ use native.Mathlib.Omega.{arith}
 use native.Mathlib.Nat.{add-zero, add-sub_cancel_left}
 use lib.ListN.{length, get_or, length-append, get_or-append}
 use lib.Seq.{take-append_seam, drop-append_seam, get_or-append-add}
+use Rattle.std.specs.Prelude.{Ok}
 use Rattle.number.specs.Number.{be}
 use Rattle.number.proofs.Laws.{be-after, be-take}
 use Rattle.packet.specs.Packet.{header_at, packet_at}
-use Rattle.packet.specs.declared.PacketAnswer.TheVariants as packet
 use Rattle.packet.proofs.Laws.{accepts, whole}
-use Rattle.map_items.specs.declared.Verdict.TheVariants as verdict
 use Rattle.map_tracks.specs.Tracks.{kth_of}
 use Rattle.map.specs.Map.{map_verdict, answer_of, on_kth, track_in, map_at, track_at, material_says, listed_in}
 use Rattle.plate.specs.Part.{part}
-use Rattle.map.specs.declared.MapAnswer.TheVariants as answer
 
 module _ (a m b : List ℕ) where
   s : List ℕ
@@ -32,8 +30,8 @@ module _ (a m b : List ℕ) where
   pub part_there : part (length a) (length a + length m) (a ++ (m ++ b)) ≡ m
   part_there = rw (add-sub_cancel_left, drop-append_seam a (m ++ b)) (take-append_seam m b)
 
-  module _ (h : header_at m 0 ≡ packet.Whole (record { packet_type = 0xBC; len = length m })) where
-    header_there : header_at s (length a) ≡ packet.Whole (record { packet_type = 0xBC; len = length m })
+  module _ (h : header_at m 0 ≡ Ok (record { packet_type = 0xBC; len = length m })) where
+    header_there : header_at s (length a) ≡ Ok (record { packet_type = 0xBC; len = length m })
     unfolding s
     header_there =
         let g = whole m 0 (record { packet_type = 0xBC; len = length m }) h in
@@ -42,14 +40,14 @@ module _ (a m b : List ℕ) where
         let long : be s (length a + 6) 4 ≡ length m = number_there 6 4 (omega (arith, g.least)) ∙ sym g.lens in
         let within : length m ≤ length s - length a = omega (arith, length-append a (m ++ b), length-append m b) in
         let type_byte : get_or s (length a + 5) 0 ≡ 0xBC = byte_there 5 (omega (arith, g.least)) ∙ sym g.kinds in
-        accepts s (length a) (length m) leader trailer long g.least g.fours within ∙ ap (λ (k : ℕ). packet.Whole (record { packet_type = k; len = length m })) type_byte
+        accepts s (length a) (length m) leader trailer long g.least g.fours within ∙ ap (λ (k : ℕ). Ok (record { packet_type = k; len = length m })) type_byte
 
-    pub packet_there : packet_at (a ++ (m ++ b)) (length a) 0xBC ≡ packet.Whole (record { packet_type = 0xBC; len = length m })
+    pub packet_there : packet_at (a ++ (m ++ b)) (length a) 0xBC ≡ Ok (record { packet_type = 0xBC; len = length m })
     unfolding packet_at s
     packet_there = rw header_there
 
-    module _ (v : map_verdict m ≡ verdict.Accepted) where
-      pub read_there : map_at (a ++ (m ++ b)) (length a) ≡ answer.Says (record { count = length (listed_in m); material = material_says m })
+    module _ (v : map_verdict m ≡ (Ok tt)) where
+      pub read_there : map_at (a ++ (m ++ b)) (length a) ≡ Ok (record { count = length (listed_in m); material = material_says m })
       unfolding map_at answer_of packet_at s
       read_there = rw (header_there, part_there, v)
 

@@ -1,14 +1,12 @@
 -- What serves the proofs alone: what items and tracks say, with no place in it, and what the reader asks of them. The theorems about newer and written maps go by it.
-use Rattle.std.specs.Prelude.{ℕ, ◌-◌, ◌≡◌, List, [], map, length}
+use Rattle.std.specs.Prelude.{ℕ, ◌-◌, ◌≡◌, List, [], map, length, None, Ok}
 use Rattle.plate.specs.Choice.{pick}
 use Rattle.map_items.specs.Items.{Item}
 use Rattle.map_items.specs.Judge.{judge_items}
 use Rattle.map_items.specs.declared.Section.TheVariants as section
-use Rattle.map_items.specs.declared.Verdict.TheVariants.{Accepted}
 use Rattle.map_items.specs.Find.{Found, missing, found, find, part_of}
 use Rattle.map_aspect.specs.Aspect.{aspect_of}
 use Rattle.map_answer.specs.Answer.{value_of, code_of, is_null}
-use Rattle.map_answer.specs.declared.Value.TheVariants as value
 use Rattle.map_tracks.specs.Tracks.{over, judge_tracks}
 use Rattle.map.specs.Encode.{TrackParts, MapParts, described}
 use Rattle.map.specs.View.{Held, nothing, bytes, held_bytes, MaterialView, TrackView, MapView}
@@ -44,7 +42,7 @@ track_view_of_parts t =
       rate = code_of 0x50 (value_of (find 0x50 0 t.items));
       lines = code_of 0x51 (value_of (find 0x51 0 t.items));
       fields = code_of 0x52 (value_of (find 0x52 0 t.items));
-      version = pick (is_null (part_of (find 0x4C 0 t.items))) value.Absent (value_of (find 0x4E 0 t.items));
+      version = pick (is_null (part_of (find 0x4C 0 t.items))) None (value_of (find 0x4E 0 t.items));
       name = held_of (find 0x4C 0 t.items);
       aux = shown_of 0x4D t.items;
       mpeg = shown_of 0x4F t.items;
@@ -62,4 +60,4 @@ view_of_parts p =
 
 -- what the reader asks of items and tracks, by its own judges; whether they accept does not depend on the place, so it is 0
 abbrev pub Good : MapParts → Type 0
-Good p = (judge_items section.Material [] 0 p.material ≡ Accepted) × (judge_tracks [] 0 (map described p.tracks) over ≡ Accepted)
+Good p = (judge_items section.Material [] 0 p.material ≡ (Ok tt)) × (judge_tracks [] 0 (map described p.tracks) over ≡ (Ok tt))

@@ -1,29 +1,24 @@
 -- The map packet (RDD 14, 7.1.2; 01, "Map"): its two sections, the verdict and the answer.
 -- p is the bytes of one packet, from its header's first byte to its length; the header itself is judged by `packet_at`, in `map_at` and `track_at`.
-use Rattle.std.specs.Prelude.{ℕ, ◌+◌, ◌-◌, List, [], length, get_or, replicate, ltb, eqb}
+use Rattle.std.specs.Prelude.{ℕ, ◌+◌, ◌-◌, List, [], length, get_or, replicate, ltb, eqb, Option, Result, Ok, Err, ⊤, ok_or}
 use Rattle.plate.specs.Choice.{pick}
 use Rattle.plate.specs.Part.{part}
 use Rattle.plate.specs.Plate.{refusal}
 use Rattle.number.specs.Number.{be}
 use Rattle.packet.specs.Packet.{packet_at, type_map}
-use Rattle.packet.specs.declared.PacketAnswer.{PacketAnswer}
-use Rattle.packet.specs.declared.PacketAnswer.TheVariants as packet
 use Rattle.map_items.specs.Items.{section_of}
 use Rattle.map_items.specs.Judge.{bad, and_then, verdict_of}
 use Rattle.map_items.specs.declared.Section.TheVariants as section
-use Rattle.map_items.specs.declared.Verdict.{Verdict}
-use Rattle.map_items.specs.declared.Verdict.TheVariants as verdict
 use Rattle.map_answer.specs.Answer.{material_of}
 use Rattle.map_answer.specs.declared.Material.{Material}
 use Rattle.map_tracks.specs.Tracks.{Placed, tracks_of, tracks_verdict, listed, kth_of, types_of}
-use Rattle.map_tracks.specs.declared.Kth.{Kth}
-use Rattle.map_tracks.specs.declared.Kth.TheVariants as kth
 use Rattle.map.specs.declared.Layout.{Layout}
 use Rattle.map.specs.declared.Layout.TheVariants.{Both, One, Neither}
-use Rattle.map.specs.declared.MapAnswer.{MapAnswer}
-use Rattle.map.specs.declared.MapAnswer.TheVariants as map
-use Rattle.map.specs.declared.TrackAnswer.{TrackAnswer}
-use Rattle.map.specs.declared.TrackAnswer.TheVariants as track
+use Rattle.map.specs.declared.MapSays.{MapSays}
+use Rattle.map_answer.specs.declared.Track.{Track}
+use Rattle.packet.specs.declared.Packet.{Packet}
+use Rattle.plate.specs.declared.Refusal.{Refusal}
+use Rattle.plate.specs.declared.Fault.TheVariants as fault
 
 -- the track section's length word, 16 bits, stands where the material section ends, at a
 unfoldable pub after_material : List ℕ → ℕ → Layout
@@ -52,18 +47,18 @@ tracks_at (Both a e) = a + 2
 tracks_at (One a) = 0
 tracks_at Neither = 0
 
-unfoldable pub both_verdict : List ℕ → ℕ → ℕ → Verdict
+unfoldable pub both_verdict : List ℕ → ℕ → ℕ → Result ⊤ Refusal
 both_verdict p a e = and_then (verdict_of section.Material (part 20 a p) 20) (tracks_verdict (part (a + 2) e p) (a + 2))
 
 -- one walk: the material length word, its items, the track length word, the tracks
-unfoldable pub sections_verdict : List ℕ → Layout → Verdict
-sections_verdict p Neither = bad 8 18
-sections_verdict p (One a) = and_then (verdict_of section.Material (part 20 a p) 20) (bad 8 a)
+unfoldable pub sections_verdict : List ℕ → Layout → Result ⊤ Refusal
+sections_verdict p Neither = bad fault.Overhang 18
+sections_verdict p (One a) = and_then (verdict_of section.Material (part 20 a p) 20) (bad fault.Overhang a)
 sections_verdict p (Both a e) = both_verdict p a e
 
 -- a payload under two bytes, 8; a version byte other than E0, 7; the reserved byte after it is ignored; then the sections
-unfoldable pub map_verdict : List ℕ → Verdict
-map_verdict p = pick (ltb (length p) 18) (bad 8 16) (pick (eqb (get_or p 16 0) 0xE0) (sections_verdict p (layout_of p)) (bad 7 16))
+unfoldable pub map_verdict : List ℕ → Result ⊤ Refusal
+map_verdict p = pick (ltb (length p) 18) (bad fault.Overhang 16) (pick (eqb (get_or p 16 0) 0xE0) (sections_verdict p (layout_of p)) (bad fault.MapVersion 16))
 
 unfoldable pub material_says : List ℕ → Material
 material_says p = material_of 20 (section_of (material_in p (layout_of p))).list
@@ -77,36 +72,35 @@ unfoldable pub types_in : List ℕ → List ℕ
 types_in p = types_of (replicate 64 0) (tracks_of (tracks_in p (layout_of p))).list
 
 -- the answer, where the map is accepted
-abbrev pub on_verdict : Verdict → MapAnswer → MapAnswer
-on_verdict verdict.Accepted a = a
-on_verdict (verdict.Refused r) a = map.Refused r
+abbrev pub on_verdict : Result ⊤ Refusal → Result MapSays Refusal → Result MapSays Refusal
+on_verdict (Ok _) a = a
+on_verdict (Err r) a = Err r
 
-unfoldable pub answer_of : List ℕ → MapAnswer
-answer_of p = on_verdict (map_verdict p) (map.Says (record { count = length (listed_in p); material = material_says p }))
+unfoldable pub answer_of : List ℕ → Result MapSays Refusal
+answer_of p = on_verdict (map_verdict p) (Ok (record { count = length (listed_in p); material = material_says p }))
 
 -- the k-th listed track; 16 where there is none
-abbrev pub on_kth : Kth → TrackAnswer
-on_kth (kth.Record t) = track.Record t
-on_kth kth.Nothing = track.Refused (refusal 16 0)
+abbrev pub on_kth : Option Track → Result Track Refusal
+on_kth t = ok_or t (refusal fault.NotThere 0)
 
-abbrev pub on_track : Verdict → TrackAnswer → TrackAnswer
-on_track verdict.Accepted a = a
-on_track (verdict.Refused r) a = track.Refused r
+abbrev pub on_track : Result ⊤ Refusal → Result Track Refusal → Result Track Refusal
+on_track (Ok _) a = a
+on_track (Err r) a = Err r
 
-unfoldable pub track_in : List ℕ → ℕ → TrackAnswer
+unfoldable pub track_in : List ℕ → ℕ → Result Track Refusal
 track_in p k = on_track (map_verdict p) (on_kth (kth_of k (listed_in p)))
 
 -- at a position of lent bytes: the header's refusals first; the packet's bytes are no more than its length
-abbrev pub map_from : List ℕ → ℕ → PacketAnswer → MapAnswer
-map_from s at (packet.Refused r) = map.Refused r
-map_from s at (packet.Whole w) = answer_of (part at (at + w.len) s)
+abbrev pub map_from : List ℕ → ℕ → Result Packet Refusal → Result MapSays Refusal
+map_from s at (Err r) = Err r
+map_from s at (Ok w) = answer_of (part at (at + w.len) s)
 
-unfoldable pub map_at : List ℕ → ℕ → MapAnswer
+unfoldable pub map_at : List ℕ → ℕ → Result MapSays Refusal
 map_at s at = map_from s at (packet_at s at type_map)
 
-abbrev pub track_from : List ℕ → ℕ → ℕ → PacketAnswer → TrackAnswer
-track_from s at k (packet.Refused r) = track.Refused r
-track_from s at k (packet.Whole w) = track_in (part at (at + w.len) s) k
+abbrev pub track_from : List ℕ → ℕ → ℕ → Result Packet Refusal → Result Track Refusal
+track_from s at k (Err r) = Err r
+track_from s at k (Ok w) = track_in (part at (at + w.len) s) k
 
-unfoldable pub track_at : List ℕ → ℕ → ℕ → TrackAnswer
+unfoldable pub track_at : List ℕ → ℕ → ℕ → Result Track Refusal
 track_at s at k = track_from s at k (packet_at s at type_map)

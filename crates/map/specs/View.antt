@@ -1,12 +1,10 @@
 -- What a map's answer says, places aside (01, "Map"): two answers are alike when all else agrees and the bytes at the places do.
-use Rattle.std.specs.Prelude.{ℕ, List, [], map, length, take, drop}
-use Rattle.map_items.specs.declared.Part.{Part}
-use Rattle.map_items.specs.declared.Part.TheVariants as part
+use Rattle.std.specs.Prelude.{ℕ, List, [], map, length, take, drop, Option, Some, None}
 use Rattle.map_aspect.specs.declared.Aspect.{Aspect}
-use Rattle.map_answer.specs.declared.Value.{Value}
 use Rattle.map_answer.specs.declared.Code.{Code}
 use Rattle.map_answer.specs.declared.Material.{Material}
 use Rattle.map_answer.specs.declared.Track.{Track}
+use Rattle.map_items.specs.declared.Part.{Part}
 use Rattle.map_tracks.specs.Tracks.{record_of}
 use Rattle.map.specs.Map.{material_says, listed_in}
 
@@ -15,9 +13,9 @@ pub data Held : Type 0 where
   nothing : Held
   bytes : ℕ → List ℕ → Held
 
-abbrev pub held_at : List ℕ → Part → Held
-held_at p (part.At q n) = bytes n (take n (drop q p))
-held_at p part.Absent = nothing
+abbrev pub held_at : List ℕ → Option Part → Held
+held_at p (Some q) = bytes q.len (take q.len (drop q.at p))
+held_at p None = nothing
 
 -- those bytes; none where nothing is there
 abbrev pub held_bytes : Held → List ℕ
@@ -26,11 +24,11 @@ held_bytes (bytes n v) = v
 
 pub record MaterialView : Type 0 where
   pub name : Held
-  pub first : Value
-  pub last : Value
-  pub mark_in : Value
-  pub mark_out : Value
-  pub size : Value
+  pub first : Option ℕ
+  pub last : Option ℕ
+  pub mark_in : Option ℕ
+  pub mark_out : Option ℕ
+  pub size : Option ℕ
 
 pub record TrackView : Type 0 where
   pub id : ℕ
@@ -38,7 +36,7 @@ pub record TrackView : Type 0 where
   pub rate : Code
   pub lines : Code
   pub fields : Code
-  pub version : Value
+  pub version : Option ℕ
   pub name : Held
   pub aux : Held
   pub mpeg : Held

@@ -8,13 +8,12 @@ ghost use Rattle.map_tracks.specs.Tracks.{kth_of, id_of};
 ghost use Rattle.map.specs.Map.{after_material, layout_of, material_in, tracks_in, tracks_at, both_verdict, sections_verdict, map_verdict, material_says, listed_in, types_in, answer_of, track_in, map_at, track_at};
 
 use map_answer::{Material, Track};
-use map_items::{Section, Verdict};
-use map_tracks::{Kth, Types};
-use packet::PacketAnswer;
-use plate::Refusal;
+use map_items::Section;
+use map_tracks::Types;
+use plate::{Fault, Refusal};
 
 // Where a map's two sections end, by their length words alone; the material section begins at 20.
-#[derive(Clone, Copy)]
+#[derive(Clone, Copy, Debug, PartialEq, Eq)]
 pub enum Layout {
     // The material section ends at the first, and the track section, two bytes after that, begins; it ends at the second.
     Both(usize, usize),
@@ -25,22 +24,10 @@ pub enum Layout {
 }
 
 // What an accepted map says: the number of its listed tracks, and the material answer.
-#[derive(Clone, Copy)]
+#[derive(Clone, Copy, Debug, PartialEq, Eq)]
 pub struct MapSays {
     pub count: usize,
     pub material: Material,
-}
-
-#[derive(Clone, Copy)]
-pub enum MapAnswer {
-    Says(MapSays),
-    Refused(Refusal),
-}
-
-#[derive(Clone, Copy)]
-pub enum TrackAnswer {
-    Record(Track),
-    Refused(Refusal),
 }
 
 fn after_material(p: &[u8], a: usize) -> Layout
@@ -88,12 +75,8 @@ fn track_part(p: &[u8]) -> &[u8]
     ensures { result.now ≡ tracks_in p.now (layout_of p.now) }
 {
     match layout_of(p) {
-        Layout::Both(a, e) => {
-            let b = a + 2;
-            &p[b..e]
-        }
-        Layout::One(_) => &p[..0],
-        Layout::Neither => &p[..0],
+        Layout::Both(a, e) => &p[a + 2..e],
+        _ => &p[..0],
     }
 }
 
@@ -103,50 +86,45 @@ fn first_track(p: &[u8]) -> usize
 {
     match layout_of(p) {
         Layout::Both(a, _) => a + 2,
-        Layout::One(_) => 0,
-        Layout::Neither => 0,
+        _ => 0,
     }
 }
 
 // The verdict on both sections, where they lie in the packet.
-fn judge_both(p: &[u8], a: usize, e: usize) -> Verdict
+fn judge_both(p: &[u8], a: usize, e: usize) -> Result<(), Refusal>
     requires { (20 ≤ a) × (a + 2 ≤ e) × (e ≤ length p.now) }
     ensures { result ≡ both_verdict p.now a e }
 {
-    match map_items::judge(Section::Material, &p[20..a], 20) {
-        Verdict::Refused(r) => Verdict::Refused(r),
-        Verdict::Accepted => {
-            let b = a + 2;
-            map_tracks::judge(&p[b..e], b)
-        }
-    }
+    map_items::judge(Section::Material, &p[20..a], 20)?;
+    let b = a + 2;
+    map_tracks::judge(&p[b..e], b)
 }
 
 // The verdict where only the material section lies in the packet.
-fn judge_one(p: &[u8], a: usize) -> Verdict
+fn judge_one(p: &[u8], a: usize) -> Result<(), Refusal>
     requires { (20 ≤ a) × (a ≤ length p.now) }
     ensures { result ≡ sections_verdict p.now (Layout.One a) }
 {
-    match map_items::judge(Section::Material, &p[20..a], 20) {
-        Verdict::Refused(r) => Verdict::Refused(r),
-        Verdict::Accepted => map_items::refused(plate::OVERHANG, a),
-    }
+    map_items::judge(Section::Material, &p[20..a], 20)?;
+    map_items::refused(Fault::Overhang, a)
 }
 
 // The verdict on the bytes of a map packet: its first fault in walk order.
-pub fn verdict_of(p: &[u8]) -> Verdict
+// It is called, so the loop that reads media packets stays small.
+#[inline(never)]
+pub fn verdict_of(p: &[u8]) -> Result<(), Refusal>
     ensures { result ≡ map_verdict p.now }
 {
     if p.len() < 18 {
-        return map_items::refused(plate::OVERHANG, 16);
+        return map_items::refused(Fault::Overhang, 16);
     }
     if p[16] != 0xE0 {
-        return map_items::refused(plate::MAP_VERSION, 16);
+        return map_items::refused(Fault::MapVersion, 16);
     }
     match layout_of(p) {
         Layout::Both(a, e) => judge_both(p, a, e),
         Layout::One(a) => judge_one(p, a),
-        Layout::Neither => map_items::refused(plate::OVERHANG, 18),
+        Layout::Neither => map_items::refused(Fault::Overhang, 18),
     }
 }
 
@@ -165,20 +143,22 @@ pub fn count_of(p: &[u8]) -> usize
 }
 
 // The record of the k-th listed track, from 0.
-pub fn kth_of(p: &[u8], k: usize) -> Kth
+pub fn kth_of(p: &[u8], k: usize) -> Option<Track>
     ensures { result ≡ kth_of k (listed_in p.now) }
 {
     map_tracks::kth_record(track_part(p), first_track(p), k)
 }
 
 // The record of the listed track of an ID.
-pub fn id_of(p: &[u8], id: usize) -> Kth
+pub fn id_of(p: &[u8], id: usize) -> Option<Track>
     ensures { result ≡ id_of id (listed_in p.now) }
 {
     map_tracks::record_of_id(track_part(p), first_track(p), id)
 }
 
 // The listed IDs with their marked types.
+// It is called, so the loop that reads media packets stays small.
+#[inline(never)]
 pub fn types_of(p: &[u8]) -> Types
     ensures { result.media_types ≡ types_in p.now }
 {
@@ -186,56 +166,36 @@ pub fn types_of(p: &[u8]) -> Types
 }
 
 // The answer of a map packet's bytes, or its first fault.
-pub fn answer_of(p: &[u8]) -> MapAnswer
+pub fn answer_of(p: &[u8]) -> Result<MapSays, Refusal>
     ensures { result ≡ answer_of p.now }
 {
-    match verdict_of(p) {
-        Verdict::Refused(r) => MapAnswer::Refused(r),
-        Verdict::Accepted => {
-            let count = count_of(p);
-            let material = material_of(p);
-            MapAnswer::Says(MapSays { count, material })
-        }
-    }
+    verdict_of(p)?;
+    Ok(MapSays {
+        count: count_of(p),
+        material: material_of(p),
+    })
 }
 
 // The record of the k-th listed track of a map packet's bytes, or the first fault; 16 where fewer are listed.
-pub fn track_of(p: &[u8], k: usize) -> TrackAnswer
+pub fn track_of(p: &[u8], k: usize) -> Result<Track, Refusal>
     ensures { result ≡ track_in p.now k }
 {
-    match verdict_of(p) {
-        Verdict::Refused(r) => TrackAnswer::Refused(r),
-        Verdict::Accepted => {
-            match kth_of(p, k) {
-                Kth::Record(t) => TrackAnswer::Record(t),
-                Kth::Nothing => TrackAnswer::Refused(plate::refuse(plate::NOT_THERE, 0)),
-            }
-        }
-    }
+    verdict_of(p)?;
+    kth_of(p, k).ok_or(plate::refuse(Fault::NotThere, 0))
 }
 
 // The map packet at a position of lent bytes: refusals 1 to 6, then its own. Places in it count from its first byte.
-pub fn read(s: &[u8], at: usize) -> MapAnswer
+pub fn read(s: &[u8], at: usize) -> Result<MapSays, Refusal>
     ensures { result ≡ map_at s.now at }
 {
-    match packet::of_type(s, at, packet::MAP) {
-        PacketAnswer::Refused(r) => MapAnswer::Refused(r),
-        PacketAnswer::Whole(w) => {
-            let e = at + w.len;
-            answer_of(&s[at..e])
-        }
-    }
+    let w = packet::of_type(s, at, packet::MAP)?;
+    answer_of(&s[at..at + w.len])
 }
 
 // The k-th listed track of the map packet at a position of lent bytes.
-pub fn track(s: &[u8], at: usize, k: usize) -> TrackAnswer
+pub fn track(s: &[u8], at: usize, k: usize) -> Result<Track, Refusal>
     ensures { result ≡ track_at s.now at k }
 {
-    match packet::of_type(s, at, packet::MAP) {
-        PacketAnswer::Refused(r) => TrackAnswer::Refused(r),
-        PacketAnswer::Whole(w) => {
-            let e = at + w.len;
-            track_of(&s[at..e], k)
-        }
-    }
+    let w = packet::of_type(s, at, packet::MAP)?;
+    track_of(&s[at..at + w.len], k)
 }

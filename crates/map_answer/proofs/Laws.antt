@@ -1,6 +1,6 @@
 -- What a part that was found tells of the bytes, and which numbers are codes.
 use Prim.Native.Nat.{ℕ, ◌+◌, ◌-◌, ◌<◌, ◌≤◌}
-use mathlib.Core.Path.{◌≡◌, refl, sym, ◌∙◌}
+use mathlib.Core.Path.{◌≡◌, refl, ap, sym, ◌∙◌}
 use mathlib.Core.List.{List, [], ◌∷◌}
 use mathlib.Core.Bool.{Bool, true, false}
 use native.Mathlib.Omega.{arith}
@@ -8,6 +8,7 @@ use native.Mathlib.Nat.{add-zero, add-sub_cancel_left}
 use lib.ListN.{length, take, drop}
 use lib.Dec.{eqb, leb}
 use borrow.Author.Tests.{eq-eqb, ne_eqb, le-leb, lt-leb, leb-true, leb-false}
+use Rattle.std.specs.Prelude.{Some, None}
 use Rattle.plate.specs.Choice.{pick}
 use Rattle.plate.proofs.Tests.{no_choice}
 use Rattle.number.specs.Number.{be}
@@ -16,10 +17,10 @@ use Rattle.map_items.specs.Items.{Item, section_of}
 use Rattle.map_items.specs.Judge.{has}
 use Rattle.map_items.specs.Find.{Found, missing, found, find, part_of, bytes_of}
 use Rattle.map_items.proofs.Lookup.{section_stands}
-use Rattle.map_items.specs.declared.Part.TheVariants as part
 use Rattle.map_answer.specs.Answer.{value_of, allowed}
 use Rattle.map_answer.specs.Inside.{InSection, part_bytes}
-use Rattle.map_answer.specs.declared.Value.TheVariants as value
+use Rattle.map_items.specs.declared.Part.{Part}
+use Rattle.map_items.proofs.Same.{same_part}
 
 -- what was found behind a part
 pub record Behind (x : Found) (q n : ℕ) : Type 0 where
@@ -27,15 +28,17 @@ pub record Behind (x : Found) (q n : ℕ) : Type 0 where
   pub was : x ≡ found q bytes
   pub long : length bytes ≡ n
 
-pub behind : (x : Found) (q n : ℕ) → part_of x ≡ part.At q n → Behind x q n
+pub behind : (x : Found) (q n : ℕ) → part_of x ≡ Some (record { at = q; len = n }) → Behind x q n
 behind missing q n e = absurd (let z : ◌≡◌ {A = ℕ} 0 1 = cc in omega arith)
-behind (found p v) q n e = record { bytes = v; was = let a : p ≡ q = cc in cc; long = cc }
+behind (found p v) q n e =
+    let same = same_part p (length v) q n e in
+    record { bytes = v; was = ap (λ (k : ℕ). found k v) same.0; long = same.1 }
 
-pub none_behind : (x : Found) → part_of x ≡ part.Absent → x ≡ missing
+pub none_behind : (x : Found) → part_of x ≡ None → x ≡ missing
 none_behind missing e = refl
 none_behind (found p v) e = absurd (let z : ◌≡◌ {A = ℕ} 0 1 = cc in omega arith)
 
-module _ (tag base : ℕ) (s : List ℕ) (q n : ℕ) (e : part_of (find tag base (section_of s).list) ≡ part.At q n) where
+module _ (tag base : ℕ) (s : List ℕ) (q n : ℕ) (e : part_of (find tag base (section_of s).list) ≡ Some (record { at = q; len = n })) where
   -- where a part stands in its section
   pub stands : (base + 2 ≤ q) × (q + n ≤ base + length s)
   stands =
@@ -44,7 +47,7 @@ module _ (tag base : ℕ) (s : List ℕ) (q n : ℕ) (e : part_of (find tag base
       (r.0, omega (arith, r.1, b.long))
 
   -- four bytes are a number, and any other count is none
-  pub is_value : n ≡ 4 → value.Is (be s (q - base) 4) ≡ value_of (find tag base (section_of s).list)
+  pub is_value : n ≡ 4 → Some (be s (q - base) 4) ≡ value_of (find tag base (section_of s).list)
   unfolding value_of
   is_value h =
       let b = behind _ q n e in
@@ -53,13 +56,13 @@ module _ (tag base : ℕ) (s : List ℕ) (q n : ℕ) (e : part_of (find tag base
       let v : b.bytes ≡ take 4 (drop (q - base) s) = sym r.2 ∙ rw l in
       sym (rw (b.was, eq-eqb _ _ l, v, be-take 4 (drop (q - base) s) 0 4 (omega arith), be-drop (q - base) s 0 4, add-zero))
 
-  pub no_value : (n ≡ 4 → ⊥) → value.Absent ≡ value_of (find tag base (section_of s).list)
+  pub no_value : (n ≡ 4 → ⊥) → None ≡ value_of (find tag base (section_of s).list)
   unfolding value_of
   no_value h =
       let b = behind (find tag base (section_of s).list) q n e in
       sym (rw (b.was, ne_eqb (length b.bytes) 4 (λ l. h (sym b.long ∙ l))))
 
-pub nothing_value : (x : Found) → part_of x ≡ part.Absent → value.Absent ≡ value_of x
+pub nothing_value : (x : Found) → part_of x ≡ None → None ≡ value_of x
 unfolding value_of
 nothing_value x e = sym (rw (none_behind x e))
 
@@ -87,7 +90,7 @@ module _ (tag base : ℕ) (s : List ℕ) where
   abbrev it : Found
   it = find tag base (section_of s).list
 
-  pub shown_in : (null : Bool) → InSection s base (pick null part.Absent (part_of it))
+  pub shown_in : (null : Bool) → InSection s base (pick null None (part_of it))
   shown_in true = tt
   shown_in false = go it refl
     where
@@ -95,7 +98,7 @@ module _ (tag base : ℕ) (s : List ℕ) where
       go missing e = tt
       go (found q v) e = let r = section_stands tag base s q v e in (omega (arith, r.0), r.1)
 
-  pub shown_bytes_lem : (null : Bool) → part_bytes s base (pick null part.Absent (part_of it)) ≡ pick null [] (bytes_of it)
+  pub shown_bytes_lem : (null : Bool) → part_bytes s base (pick null None (part_of it)) ≡ pick null [] (bytes_of it)
   unfolding part_bytes
   shown_bytes_lem true = refl
   shown_bytes_lem false = go it refl

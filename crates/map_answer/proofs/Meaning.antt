@@ -8,15 +8,15 @@ use native.Mathlib.Omega.{arith}
 use lib.Dec.{eqb, ltb}
 use lib.IntN.{ℤ, pos, negsuc}
 use borrow.Author.Tests.{eqb-true, eq-eqb, ne_eqb, lt-ltb}
+use Rattle.std.specs.Prelude.{Some}
 use Rattle.plate.specs.Choice.{pick}
 use Rattle.plate.proofs.Tests.{no_choice}
 use Rattle.map_items.specs.Judge.{has}
 use Rattle.map_answer.specs.Answer.{allowed, code_of, is_progressive, OneAlone, nothing, number, meaning_of, signed, codes_of, In, CodeSays}
-use Rattle.map_answer.specs.declared.Value.TheVariants as value
 use Rattle.map_answer.specs.declared.Code.TheVariants as code
 use Rattle.map_answer.proofs.Laws.{over_allowed, allowed_small}
 
-pub code_means : (tag n : ℕ) → (code_of tag (value.Is n) ≡ code.Absent) ⊎ (meaning_of (code_of tag (value.Is n)) ≡ number (signed n))
+pub code_means : (tag n : ℕ) → (code_of tag (Some n) ≡ code.Absent) ⊎ (meaning_of (code_of tag (Some n)) ≡ number (signed n))
 unfolding code_of meaning_of signed
 code_means tag n = go (eqb n 0xFFFFFFFF) (eqb n 0xFFFFFFFE) (allowed tag n) refl refl refl
   where
@@ -79,26 +79,26 @@ minus_2 [] = inr (inl refl)
 minus_2 (m ∷ ns) = inr (minus_2 ns)
 
 -- the code of a number: −1, −2, one with a meaning, and any other
-says_minus_1 : (tag : ℕ) → meaning_of (code_of tag (value.Is 0xFFFFFFFF)) ≡ number (signed 0xFFFFFFFF)
+says_minus_1 : (tag : ℕ) → meaning_of (code_of tag (Some 0xFFFFFFFF)) ≡ number (signed 0xFFFFFFFF)
 unfolding code_of meaning_of signed
 says_minus_1 tag = refl
 
-says_minus_2 : (tag : ℕ) → meaning_of (code_of tag (value.Is 0xFFFFFFFE)) ≡ number (signed 0xFFFFFFFE)
+says_minus_2 : (tag : ℕ) → meaning_of (code_of tag (Some 0xFFFFFFFE)) ≡ number (signed 0xFFFFFFFE)
 unfolding code_of meaning_of signed
 says_minus_2 tag = refl
 
-says_allowed : (tag n : ℕ) → allowed tag n ≡ true → meaning_of (code_of tag (value.Is n)) ≡ number (signed n)
+says_allowed : (tag n : ℕ) → allowed tag n ≡ true → meaning_of (code_of tag (Some n)) ≡ number (signed n)
 unfolding code_of meaning_of signed
 says_allowed tag n e =
     let h = allowed_small tag n e in
     simp (ne_eqb n 0xFFFFFFFF (λ q. omega arith), ne_eqb n 0xFFFFFFFE (λ q. omega arith), e, lt-ltb n 0x80000000 (omega arith))
 
-says_nothing : (tag n : ℕ) → (n ≡ 0xFFFFFFFF → ⊥) → (n ≡ 0xFFFFFFFE → ⊥) → allowed tag n ≡ false → meaning_of (code_of tag (value.Is n)) ≡ nothing
+says_nothing : (tag n : ℕ) → (n ≡ 0xFFFFFFFF → ⊥) → (n ≡ 0xFFFFFFFE → ⊥) → allowed tag n ≡ false → meaning_of (code_of tag (Some n)) ≡ nothing
 unfolding code_of meaning_of
 says_nothing tag n a b e = simp (ne_eqb n 0xFFFFFFFF a, ne_eqb n 0xFFFFFFFE b, e)
 
 module _ (tag n : ℕ) (ns : List ℕ) (h : n < 2 ^ 32) (c : codes_of tag ≡ with_common ns) (a : allowed tag n ≡ has n ns) where
-  when_listed : In (signed n) (codes_of tag) → meaning_of (code_of tag (value.Is n)) ≡ number (signed n)
+  when_listed : In (signed n) (codes_of tag) → meaning_of (code_of tag (Some n)) ≡ number (signed n)
   when_listed i =
       ⊎_elim (λ e. rw e (says_minus_1 tag)) (λ x. ⊎_elim (λ e. rw e (says_minus_2 tag)) (λ e. says_allowed tag n (a ∙ e)) x)
       (of_list n ns h (rw c at i))
@@ -107,7 +107,7 @@ module _ (tag n : ℕ) (ns : List ℕ) (h : n < 2 ^ 32) (c : codes_of tag ≡ wi
   not_allowed f true e = let k = allowed_small tag n e in absurd (f (rw c (in_list n ns (omega arith) (sym a ∙ e))))
   not_allowed f false e = refl
 
-  when_other : (In (signed n) (codes_of tag) → ⊥) → meaning_of (code_of tag (value.Is n)) ≡ nothing
+  when_other : (In (signed n) (codes_of tag) → ⊥) → meaning_of (code_of tag (Some n)) ≡ nothing
   unfolding signed
   when_other f =
       says_nothing tag n (λ e. f (rw (c, e) (minus_1 ns))) (λ e. f (rw (c, e) (minus_2 ns))) (not_allowed f (allowed tag n) refl)

@@ -1,24 +1,21 @@
 -- What items say (RDD 14, Tables 4 and 6; 01, "Map"): numbers, codes, the material answer and the track record.
-use Rattle.std.specs.Prelude.{ℕ, ◌-◌, ◌≡◌, Bool, false, ◌⊎◌, List, [], ◌∷◌, length, eqb, ltb, ℤ, pos, negsuc}
+use Rattle.std.specs.Prelude.{ℕ, ◌-◌, ◌≡◌, Bool, false, ◌⊎◌, List, [], ◌∷◌, length, eqb, ltb, ℤ, pos, negsuc, Option, Some, None}
 use Rattle.plate.specs.Choice.{pick, within}
 use Rattle.number.specs.Number.{be}
 use Rattle.map_items.specs.Items.{Item}
 use Rattle.map_items.specs.Find.{Found, missing, found, find, part_of, bytes_of}
 use Rattle.map_items.specs.Judge.{has}
-use Rattle.map_items.specs.declared.Part.{Part}
-use Rattle.map_items.specs.declared.Part.TheVariants as part
 use Rattle.map_aspect.specs.Aspect.{aspect_of}
-use Rattle.map_answer.specs.declared.Value.{Value}
-use Rattle.map_answer.specs.declared.Value.TheVariants as value
 use Rattle.map_answer.specs.declared.Code.{Code}
 use Rattle.map_answer.specs.declared.Code.TheVariants as code
 use Rattle.map_answer.specs.declared.Material.{Material}
 use Rattle.map_answer.specs.declared.Track.{Track}
+use Rattle.map_items.specs.declared.Part.{Part}
 
 -- a number, most significant byte first; in an accepted section it has its four bytes
-unfoldable pub value_of : Found → Value
-value_of missing = value.Absent
-value_of (found p v) = pick (eqb (length v) 4) (value.Is (be v 0 4)) value.Absent
+unfoldable pub value_of : Found → Option ℕ
+value_of missing = None
+value_of (found p v) = pick (eqb (length v) 4) (Some (be v 0 4)) None
 
 -- the values of Table 6: rate (50) 1 to 8; lines (51) 1, 2, 4, 6; fields (52) 1, 2; another tag has none
 unfoldable pub allowed : ℕ → ℕ → Bool
@@ -28,9 +25,9 @@ allowed tag n =
     (pick (eqb tag 0x52) (has n (1 ∷ 2 ∷ [])) false))
 
 -- INT32: all ones is −1, not applicable; one less is −2, not available; any value without a meaning counts as absent
-unfoldable pub code_of : ℕ → Value → Code
-code_of tag value.Absent = code.Absent
-code_of tag (value.Is n) =
+unfoldable pub code_of : ℕ → Option ℕ → Code
+code_of tag None = code.Absent
+code_of tag (Some n) =
     pick (eqb n 0xFFFFFFFF) code.NotApplicable
     (pick (eqb n 0xFFFFFFFE) code.NotAvailable
     (pick (allowed tag n) (code.Is n) code.Absent))
@@ -44,7 +41,7 @@ is_progressive code.Absent = false
 
 -- of all numbers in item 52 that is so of 1 alone
 abbrev pub OneAlone : Type 0
-OneAlone = (n : ℕ) → is_progressive (code_of 0x52 (value.Is n)) ≡ eqb n 1
+OneAlone = (n : ℕ) → is_progressive (code_of 0x52 (Some n)) ≡ eqb n 1
 
 -- the number of the paper that each case of a code is; an absent code is none
 pub data Meaning : Type 0 where
@@ -74,14 +71,14 @@ In x (y ∷ ys) = (x ≡ y) ⊎ In x ys
 
 -- the code of an item with the number n: the signed number that n is where 01 lists it, and absent just where it does not
 pub record CodeSays (tag n : ℕ) : Type 0 where
-  pub listed : In (signed n) (codes_of tag) → meaning_of (code_of tag (value.Is n)) ≡ number (signed n)
-  pub other : (In (signed n) (codes_of tag) → ⊥) → meaning_of (code_of tag (value.Is n)) ≡ nothing
-  pub absent : meaning_of (code_of tag (value.Is n)) ≡ nothing → In (signed n) (codes_of tag) → ⊥
+  pub listed : In (signed n) (codes_of tag) → meaning_of (code_of tag (Some n)) ≡ number (signed n)
+  pub other : (In (signed n) (codes_of tag) → ⊥) → meaning_of (code_of tag (Some n)) ≡ nothing
+  pub absent : meaning_of (code_of tag (Some n)) ≡ nothing → In (signed n) (codes_of tag) → ⊥
 
 -- the null name: in an accepted section a text of one byte is a lone 00
-unfoldable pub is_null : Part → Bool
-is_null (part.At p n) = eqb n 1
-is_null part.Absent = false
+unfoldable pub is_null : Option Part → Bool
+is_null (Some p) = eqb p.len 1
+is_null None = false
 
 -- Table 4: 40 name, 41 first field, 42 last field, 43 mark in, 44 mark out, 45 size; the items begin at place p
 unfoldable pub material_of : ℕ → List Item → Material
@@ -108,9 +105,9 @@ track_of type_byte id p is =
       rate = code_of 0x50 (value_of (find 0x50 p is));
       lines = code_of 0x51 (value_of (find 0x51 p is));
       fields = code_of 0x52 (value_of (find 0x52 p is));
-      version = pick (is_null (part_of (find 0x4C p is))) value.Absent (value_of (find 0x4E p is));
+      version = pick (is_null (part_of (find 0x4C p is))) None (value_of (find 0x4E p is));
       name = part_of (find 0x4C p is);
-      aux = pick (is_null (part_of (find 0x4C p is))) part.Absent (part_of (find 0x4D p is));
-      mpeg = pick (is_null (part_of (find 0x4C p is))) part.Absent (part_of (find 0x4F p is));
+      aux = pick (is_null (part_of (find 0x4C p is))) None (part_of (find 0x4D p is));
+      mpeg = pick (is_null (part_of (find 0x4C p is))) None (part_of (find 0x4F p is));
       aspect = aspect_of (type_byte - 0x80) (shown_bytes 0x4D p is) (shown_bytes 0x4F p is);
     }

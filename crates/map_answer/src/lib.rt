@@ -12,15 +12,8 @@ ghost use Rattle.map_answer.specs.Inside.{InSection, part_bytes};
 use map_aspect::Aspect;
 use map_items::Part;
 
-// A number of a map, if it is there.
-#[derive(Clone, Copy)]
-pub enum Value {
-    Is(u32),
-    Absent,
-}
-
 // A rate, line or field code: a value of Table 6, −1, −2, or none of these.
-#[derive(Clone, Copy)]
+#[derive(Clone, Copy, Debug, PartialEq, Eq)]
 pub enum Code {
     Is(u8),
     NotApplicable,
@@ -29,28 +22,28 @@ pub enum Code {
 }
 
 // The material section: its name's place and stored length, and its five numbers.
-#[derive(Clone, Copy)]
+#[derive(Clone, Copy, Debug, PartialEq, Eq)]
 pub struct Material {
-    pub name: Part,
-    pub first: Value,
-    pub last: Value,
-    pub mark_in: Value,
-    pub mark_out: Value,
-    pub size: Value,
+    pub name: Option<Part>,
+    pub first: Option<u32>,
+    pub last: Option<u32>,
+    pub mark_in: Option<u32>,
+    pub mark_out: Option<u32>,
+    pub size: Option<u32>,
 }
 
 // A track: ID and type bare, codes, version, where name, 4D and 4F stand, and the aspect that follows.
-#[derive(Clone, Copy)]
+#[derive(Clone, Copy, Debug, PartialEq, Eq)]
 pub struct Track {
     pub id: u8,
     pub media_type: u8,
     pub rate: Code,
     pub lines: Code,
     pub fields: Code,
-    pub version: Value,
-    pub name: Part,
-    pub aux: Part,
-    pub mpeg: Part,
+    pub version: Option<u32>,
+    pub name: Option<Part>,
+    pub aux: Option<Part>,
+    pub mpeg: Option<Part>,
     pub aspect: Aspect,
 }
 
@@ -58,84 +51,43 @@ pub struct Track {
 pub fn bare(x: u8, mark: u8) -> u8
     ensures { result ≡ x - mark }
 {
-    if mark <= x { x - mark } else { 0 }
+    x.saturating_sub(mark)
 }
 
 // The number of a four-byte item, in a section that begins at place base of its packet.
-pub fn value_at(s: &[u8], base: usize, tag: u8) -> Value
+pub fn value_at(s: &[u8], base: usize, tag: u8) -> Option<u32>
     requires { base + length s.now < 2 ^ 64 }
     ensures { result ≡ value_of (find tag base (section_of s.now).list) }
 {
-    match map_items::found(s, base, tag) {
-        Part::At(q, n) => {
-            if n == 4 {
-                let v = number::be_at(s, q - base, 4);
-                return Value::Is(v as u32);
-            }
-            Value::Absent
-        }
-        Part::Absent => Value::Absent,
+    let item = map_items::found(s, base, tag)?;
+    if item.len != 4 {
+        return None;
     }
+    Some(number::be_at(s, item.at - base, 4) as u32)
 }
 
-// Whether a number is a line code of Table 6: 1, 2, 4 or 6.
-fn is_line_code(n: u32) -> bool
-    ensures { result ≡ allowed 0x51 n }
-{
-    if n == 1 {
-        return true;
-    }
-    if n == 2 {
-        return true;
-    }
-    if n == 4 {
-        return true;
-    }
-    if n == 6 {
-        return true;
-    }
-    false
-}
-
-// Whether Table 6 gives a number a meaning under a tag.
+// Whether Table 6 gives a number a meaning under a tag: a rate, a line code or fields per frame.
 pub fn is_allowed(tag: u8, n: u32) -> bool
     ensures { result ≡ allowed tag n }
 {
-    if tag == 0x50 {
-        if n < 1 {
-            return false;
-        }
-        return n <= 8;
+    match (tag, n) {
+        (0x50, 1..=8) => true,
+        (0x51, 1 | 2 | 4 | 6) => true,
+        (0x52, 1 | 2) => true,
+        _ => false,
     }
-    if tag == 0x51 {
-        return is_line_code(n);
-    }
-    if tag != 0x52 {
-        return false;
-    }
-    if n == 1 {
-        return true;
-    }
-    if n == 2 {
-        return true;
-    }
-    false
 }
 
 // The code that a number is under a tag; a reserved number is no code.
 fn code_of(tag: u8, n: u32) -> Code
-    ensures { result ≡ code_of tag (Value.Is n) }
+    ensures { result ≡ code_of tag (Some n) }
 {
-    if n == 0xFFFFFFFF {
-        return Code::NotApplicable;
+    match n {
+        0xFFFFFFFF => Code::NotApplicable,
+        0xFFFFFFFE => Code::NotAvailable,
+        _ if is_allowed(tag, n) => Code::Is(n as u8),
+        _ => Code::Absent,
     }
-    if n == 0xFFFFFFFE {
-        return Code::NotAvailable;
-    }
-    if is_allowed(tag, n) {
-        return Code::Is(n as u8);
-    }
-    Code::Absent
 }
 
 // The code of an item, in a section that begins at place base of its packet.
@@ -144,8 +96,8 @@ pub fn code_at(s: &[u8], base: usize, tag: u8) -> Code
     ensures { result ≡ code_of tag (value_of (find tag base (section_of s.now).list)) }
 {
     match value_at(s, base, tag) {
-        Value::Is(n) => code_of(tag, n),
-        Value::Absent => Code::Absent,
+        Some(n) => code_of(tag, n),
+        None => Code::Absent,
     }
 }
 
@@ -155,19 +107,17 @@ pub fn is_progressive(fields: Code) -> bool
 {
     match fields {
         Code::Is(n) => n == 1,
-        Code::NotApplicable => false,
-        Code::NotAvailable => false,
-        Code::Absent => false,
+        _ => false,
     }
 }
 
 // Whether a name is the null name: in an accepted section a text of one byte is a lone 00.
-pub fn is_null(name: Part) -> bool
+pub fn is_null(name: Option<Part>) -> bool
     ensures { result ≡ is_null name }
 {
     match name {
-        Part::At(_, n) => n == 1,
-        Part::Absent => false,
+        Some(part) => part.len == 1,
+        None => false,
     }
 }
 
@@ -192,40 +142,24 @@ pub fn material_says(s: &[u8], base: usize) -> Material
     }
 }
 
-// Where an item stands; absent under a null name.
-fn shown(s: &[u8], base: usize, tag: u8, null: bool) -> Part
-    requires { base + length s.now < 2 ^ 64 }
-    ensures { result ≡ pick null Part.Absent (part_of (find tag base (section_of s.now).list)) }
+// What an item says, but nothing under a null name.
+fn unless_null<T: Copy>(null: bool, said: Option<T>) -> Option<T>
+    ensures { result ≡ pick null None said }
 {
-    if null {
-        return Part::Absent;
-    }
-    map_items::found(s, base, tag)
-}
-
-// The version; absent under a null name.
-fn version(s: &[u8], base: usize, null: bool) -> Value
-    requires { base + length s.now < 2 ^ 64 }
-    ensures { result ≡ pick null Value.Absent (value_of (find 0x4E base (section_of s.now).list)) }
-{
-    if null {
-        return Value::Absent;
-    }
-    value_at(s, base, 0x4E)
+    if null { None } else { said }
 }
 
 // The bytes of a part of a section that begins at place base of its packet.
-fn part_bytes(s: &[u8], base: usize, x: Part) -> &[u8]
+fn part_bytes(s: &[u8], base: usize, x: Option<Part>) -> &[u8]
     requires { InSection s.now base x }
     ensures { result.now ≡ part_bytes s.now base x }
 {
     match x {
-        Part::At(q, n) => {
-            let from = q - base;
-            let to = from + n;
-            &s[from..to]
+        Some(part) => {
+            let from = part.at - base;
+            &s[from..from + part.len]
         }
-        Part::Absent => &s[..0],
+        None => &s[..0],
     }
 }
 
@@ -241,9 +175,9 @@ pub fn record(type_byte: u8, id: u8, s: &[u8], base: usize) -> Track
     let fields = code_at(s, base, 0x52);
     let name = map_items::found(s, base, 0x4C);
     let null = is_null(name);
-    let version = version(s, base, null);
-    let aux = shown(s, base, 0x4D, null);
-    let mpeg = shown(s, base, 0x4F, null);
+    let version = unless_null(null, value_at(s, base, 0x4E));
+    let aux = unless_null(null, map_items::found(s, base, 0x4D));
+    let mpeg = unless_null(null, map_items::found(s, base, 0x4F));
     let bits = part_bytes(s, base, aux);
     let text = part_bytes(s, base, mpeg);
     let aspect = map_aspect::of_track(media_type, bits, text);

@@ -1,20 +1,20 @@
 -- The validity of a 4D by its byte 3, that a short one is not valid, and a text's aspect by its ratio.
-use Prim.Native.Nat.{ℕ, ◌+◌, ◌*◌, ◌/◌, ◌%◌, ◌<◌}
+use Prim.Native.Nat.{ℕ, ◌+◌, ◌*◌, ◌/◌, ◌%◌, ◌<◌, ◌^◌}
 use mathlib.Core.Path.{◌≡◌, refl, sym, ◌∙◌}
 use mathlib.Core.Bool.{true, false}
 use mathlib.Core.List.{List, [], ◌∷◌}
 use native.Mathlib.Omega.{arith}
 use lib.ListN.{length, get_or}
 use lib.Dec.{eqb}
-use Rattle.mpeg_scan.proofs.Laws.{past}
+use Rattle.std.specs.Prelude.{Result, Ok, Err}
+use Rattle.std.proofs.lemmas.List.{get_or_past}
 use Rattle.mpeg.specs.Read.{read_of, ratio_of}
-use Rattle.mpeg.specs.declared.MpegAnswer.{MpegAnswer}
-use Rattle.mpeg.specs.declared.MpegAnswer.TheVariants.{Given, Refused}
-use Rattle.mpeg.specs.declared.RatioAnswer.{RatioAnswer}
-use Rattle.mpeg.specs.declared.RatioAnswer.TheVariants as ratio
 use Rattle.map_aspect.specs.Aspect.{bit_at, validity, by_ar, by_answer, text_aspect}
 use Rattle.map_aspect.specs.declared.Aspect.{Aspect}
 use Rattle.map_aspect.specs.declared.Aspect.TheVariants.{Unknown}
+use Rattle.mpeg_parameter.specs.declared.ParameterValue.{ParameterValue}
+use Rattle.mpeg_parameter.specs.declared.Parameters.{Parameters}
+use Rattle.plate.specs.declared.Refusal.{Refusal}
 
 -- two highest bits of a byte: as one number, and bit by bit
 two_bits : (b : ℕ) → b < 256 → b / 64 ≡ b / 64 % 2 + 2 * (b / 128 % 2)
@@ -29,10 +29,15 @@ pub low_bit : (v : List ℕ) → get_or v 0 0 % 2 ≡ bit_at 0 v
 unfolding bit_at
 low_bit v = omega arith
 
+-- a bit of byte 0
+pub low_bits : (k : ℕ) (v : List ℕ) → k < 8 → get_or v 0 0 / 2 ^ k % 2 ≡ bit_at k v
+unfolding bit_at
+low_bits k v h = let d : k / 8 ≡ 0 = omega arith in let r : k % 8 ≡ k = omega arith in rw (d, r)
+
 -- a 4D of fewer than four bytes is not valid
 short_none : (v : List ℕ) → length v < 4 → validity v ≡ 0
 unfolding validity bit_at
-short_none v h = rw (past v 3 0 (omega arith))
+short_none v h = rw (get_or_past v 3 0 (omega arith))
 
 pub short : (v : List ℕ) → length v < 4 → eqb (validity v) 1 ≡ false
 short v h = rw (short_none v h) refl
@@ -42,14 +47,14 @@ valid_some [] e = absurd (let f : true ≡ false = sym e ∙ short [] (omega ari
 valid_some (x ∷ v) e = omega arith
 
 -- a text's aspect goes by its ratio alone
-abbrev pub by_ratio : RatioAnswer → Aspect
-by_ratio (ratio.Given x) = by_ar x
-by_ratio (ratio.Refused r) = Unknown
+abbrev pub by_ratio : Result ParameterValue Refusal → Aspect
+by_ratio (Ok x) = by_ar x
+by_ratio (Err r) = Unknown
 
 pub text_ratio : (v : List ℕ) → by_ratio (ratio_of (read_of v)) ≡ text_aspect v
 unfolding text_aspect ratio_of
 text_ratio v = go (read_of v)
   where
-    go : (a : MpegAnswer) → by_ratio (ratio_of a) ≡ by_answer a
-    go (Given x) = refl
-    go (Refused r) = refl
+    go : (a : Result Parameters Refusal) → by_ratio (ratio_of a) ≡ by_answer a
+    go (Ok x) = refl
+    go (Err r) = refl

@@ -8,6 +8,7 @@ use native.Mathlib.Omega.{arith}
 use lib.ListN.{length, get_or, take}
 use lib.Dec.{eqb, leb}
 use borrow.Author.Tests.{eqb-true, eqb-false, ne_eqb, leb-true}
+use Rattle.std.specs.Prelude.{Option, Some, None, Ok, Err}
 use Rattle.plate.specs.Choice.{pick, within}
 use Rattle.plate.proofs.Tests.{no_choice}
 use Rattle.plate.specs.declared.Refusal.{Refusal}
@@ -17,14 +18,11 @@ use Rattle.mpeg_parameter.specs.Meaning.{number, meaning_of}
 use Rattle.mpeg_parameter.specs.declared.Parameters.{Parameters}
 use Rattle.mpeg_parameter.specs.declared.ParameterValue.{ParameterValue}
 use Rattle.mpeg_parameter.specs.declared.ParameterValue.TheVariants.{Whole, Rate}
-use Rattle.mpeg_decimal.specs.declared.Amount.{Amount}
-use Rattle.mpeg_decimal.specs.declared.Amount.TheVariants.{Of, Malformed}
 use Rattle.mpeg_parameter.specs.Table.{table, row_at}
 use Rattle.mpeg_parameter.specs.Parameters.{amount_of}
 use Rattle.mpeg.specs.Lines.{Lines, done, malformed, line, lines_at}
-use Rattle.mpeg.specs.Meaning.{none, is, listed, given_by, given_in, or_zero}
+use Rattle.mpeg.specs.Meaning.{none, is, listed, given_by, given_in, or_zero, is_row}
 use Rattle.mpeg.specs.Read.{read_of}
-use Rattle.mpeg.specs.declared.MpegAnswer.TheVariants.{Given, Refused}
 use Rattle.mpeg.proofs.Meaning.{means}
 use Rattle.map_aspect.specs.Aspect.{aspect_for, bit_at, validity, dv_aspect, by_ar, text_aspect, aspect_of}
 use Rattle.map_aspect.specs.Meaning.{number_of, Mpeg, Worth, Valid, AspectSays, NoneShown}
@@ -120,10 +118,10 @@ whole (Whole m) n h e = let q : m ≡ n = cc in rw q (number_is n h)
 whole (Rate x) n h e = absurd (let z : ◌≡◌ {A = ℕ} 0 1 = cc in omega arith)
 
 -- a listed `ar` is 0 or 1
-listed_under : (a : Amount) → or_zero (listed 13 a) < 2
+listed_under : (a : Option ℕ) → or_zero (listed 13 a) < 2
 unfolding row_at table
-listed_under Malformed = omega arith
-listed_under (Of n) = go (leb 0 n) (leb n 1) refl
+listed_under None = omega arith
+listed_under (Some n) = go (leb 0 n) (leb n 1) refl
   where
     go : (a b : Bool) → leb n 1 ≡ b → or_zero (pick (pick a b false) (is n) none) < 2
     go true true q = omega (arith, leb-true n 1 q)
@@ -134,7 +132,7 @@ by_lines : (l : Lines) → or_zero (given_by 13 l) < 2
 unfolding given_by
 by_lines done = omega arith
 by_lines (malformed p) = omega arith
-by_lines (line p j v rest) = go (eqb j 13) (by_lines rest)
+by_lines (line p row v rest) = go (is_row 13 row) (by_lines rest)
   where
     go : (b : Bool) → or_zero (given_by 13 rest) < 2 → or_zero (pick b (listed 13 (amount_of (row_at 13) v)) (given_by 13 rest)) < 2
     go true h = listed_under (amount_of (row_at 13) v)
@@ -149,7 +147,7 @@ module _ (media_type : ℕ) (aux text : List ℕ) where
   unfolding aspect_of
   by_text m = rw (mpeg_is media_type m)
 
-  says_answers : Mpeg media_type → (x : Parameters) → read_of text ≡ Given x
+  says_answers : Mpeg media_type → (x : Parameters) → read_of text ≡ Ok x
       → (n : ℕ) × (meaning_of x.ar ≡ number n) × (n ≡ or_zero (given_in text 13)) × (n < 2) × (number_of (aspect_of media_type aux text) ≡ is n)
   unfolding text_aspect
   says_answers m x e =
@@ -157,7 +155,7 @@ module _ (media_type : ℕ) (aux text : List ℕ) where
       let a : meaning_of x.ar ≡ number k = (means text x e).ar in
       (k, a, refl, ar_under text, rw (by_text m, e) (whole x.ar k (ar_under text) a))
 
-  says_refuses : Mpeg media_type → (r : Refusal) → read_of text ≡ Refused r → aspect_of media_type aux text ≡ Unknown
+  says_refuses : Mpeg media_type → (r : Refusal) → read_of text ≡ Err r → aspect_of media_type aux text ≡ Unknown
   unfolding text_aspect
   says_refuses m r e = by_text m ∙ rw e
 

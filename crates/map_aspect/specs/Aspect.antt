@@ -1,14 +1,14 @@
 -- The aspect of a track (02, §11; RDD 14, Tables 7, 8 and 9), by its bare type, the bytes of the 4D that it shows and those of the 4F; where it shows none there are no bytes.
-use Rattle.std.specs.Prelude.{ℕ, ◌+◌, ◌*◌, ◌/◌, ◌%◌, ◌^◌, List, get_or, eqb}
+use Rattle.std.specs.Prelude.{ℕ, ◌+◌, ◌*◌, ◌/◌, ◌%◌, ◌^◌, List, get_or, eqb, Result, Ok, Err}
 use Rattle.plate.specs.Choice.{pick, within}
 use Rattle.media_type.specs.MediaType.{mpeg_type}
 use Rattle.mpeg_parameter.specs.declared.ParameterValue.{ParameterValue}
 use Rattle.mpeg_parameter.specs.declared.ParameterValue.TheVariants.{Whole, Rate}
 use Rattle.mpeg.specs.Read.{read_of}
-use Rattle.mpeg.specs.declared.MpegAnswer.{MpegAnswer}
-use Rattle.mpeg.specs.declared.MpegAnswer.TheVariants.{Given, Refused}
 use Rattle.map_aspect.specs.declared.Aspect.{Aspect}
 use Rattle.map_aspect.specs.declared.Aspect.TheVariants.{FourByThree, SixteenByNine, Unknown}
+use Rattle.mpeg_parameter.specs.declared.Parameters.{Parameters}
+use Rattle.plate.specs.declared.Refusal.{Refusal}
 
 -- all three tables: 0 is 4x3, 1 is 16x9
 unfoldable pub aspect_for : ℕ → Aspect
@@ -31,9 +31,9 @@ abbrev pub by_ar : ParameterValue → Aspect
 by_ar (Whole n) = aspect_for n
 by_ar (Rate x) = Unknown
 
-abbrev pub by_answer : MpegAnswer → Aspect
-by_answer (Given x) = by_ar x.ar
-by_answer (Refused r) = Unknown
+abbrev pub by_answer : Result Parameters Refusal → Aspect
+by_answer (Ok x) = by_ar x.ar
+by_answer (Err r) = Unknown
 
 unfoldable pub text_aspect : List ℕ → Aspect
 text_aspect v = by_answer (read_of v)

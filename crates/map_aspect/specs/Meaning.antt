@@ -1,11 +1,10 @@
 -- What the aspect of a track says (02, §11), by the numbers of Tables 7, 8 and 9. Proved in proofs/Meaning.antt.
-use Rattle.std.specs.Prelude.{ℕ, ◌/◌, ◌%◌, ◌<◌, ◌≤◌, ◌≡◌, ◌⊎◌, List, [], get_or}
+use Rattle.std.specs.Prelude.{ℕ, ◌/◌, ◌%◌, ◌<◌, ◌≤◌, ◌≡◌, ◌⊎◌, List, [], get_or, Ok, Err}
 use Rattle.plate.specs.declared.Refusal.{Refusal}
 use Rattle.mpeg_parameter.specs.Meaning.{number, meaning_of}
 use Rattle.mpeg_parameter.specs.declared.Parameters.{Parameters}
 use Rattle.mpeg.specs.Meaning.{Number, none, is, given_in, or_zero}
 use Rattle.mpeg.specs.Read.{read_of}
-use Rattle.mpeg.specs.declared.MpegAnswer.TheVariants.{Given, Refused}
 use Rattle.map_aspect.specs.Aspect.{aspect_of}
 use Rattle.map_aspect.specs.declared.Aspect.{Aspect}
 use Rattle.map_aspect.specs.declared.Aspect.TheVariants.{FourByThree, SixteenByNine, Unknown}
@@ -34,9 +33,9 @@ pub record AspectSays (media_type : ℕ) (aux text : List ℕ) : Type 0 where
   pub valid : (w : ℕ) → Worth media_type w → Valid aux → number_of (aspect_of media_type aux text) ≡ is (get_or aux 0 0 / w % 2)
   pub invalid : (w : ℕ) → Worth media_type w → get_or aux 3 0 < 256 → (Valid aux → ⊥) → aspect_of media_type aux text ≡ Unknown
   -- MPEG video: `ar` where the auxiliary reader answers, which is what the text's line gives, or 0; it is 0 or 1. Unknown where that reader refuses, with whatever number
-  pub answers : Mpeg media_type → (x : Parameters) → read_of text ≡ Given x
+  pub answers : Mpeg media_type → (x : Parameters) → read_of text ≡ Ok x
       → (n : ℕ) × (meaning_of x.ar ≡ number n) × (n ≡ or_zero (given_in text 13)) × (n < 2) × (number_of (aspect_of media_type aux text) ≡ is n)
-  pub refuses : Mpeg media_type → (r : Refusal) → read_of text ≡ Refused r → aspect_of media_type aux text ≡ Unknown
+  pub refuses : Mpeg media_type → (r : Refusal) → read_of text ≡ Err r → aspect_of media_type aux text ≡ Unknown
   -- every other type
   pub other : (Mpeg media_type → ⊥) → ((w : ℕ) → Worth media_type w → ⊥) → aspect_of media_type aux text ≡ Unknown
 

@@ -1,6 +1,9 @@
 -- What the map writer refuses of what it is given (RDD 14, clause 7.1, Tables 3 to 6; 01, "Writers"; 02, §12): 24, then 11, then 10, then 29.
-use Rattle.std.specs.Prelude.{ℕ, ◌+◌, ◌%◌, List, [], ◌∷◌, ◌++◌, Bool, true, false, length, take, drop, ltb, leb, eqb}
+use Rattle.std.specs.Prelude.{ℕ, ◌+◌, ◌%◌, List, [], ◌∷◌, ◌++◌, Bool, true, false, length, take, drop, ltb, leb, eqb, Option, Some, None}
 use Rattle.plate.specs.Choice.{pick}
+use Rattle.plate.specs.Plate.{number_of}
+use Rattle.plate.specs.declared.Fault.{Fault}
+use Rattle.plate.specs.declared.Fault.TheVariants as fault
 use Rattle.text.specs.Text.{text_ok}
 use Rattle.media_type.specs.MediaType.{known_type, wrong_form}
 use Rattle.map_items.specs.Judge.{has}
@@ -42,18 +45,20 @@ fits text s =
 unfoldable pub reads : List ℕ → Slot → Bool
 reads text s = pick (is_text s.tag) (text_ok (slot_part text s ++ (0 ∷ []))) true
 
--- a slot's fault, 0 for none: 24, for a mark other than 0 and 1 too; then 11
-unfoldable pub slot_fault : List ℕ → Slot → ℕ
+-- a slot's fault, if it has one: 24, for a mark other than 0 and 1 too; then 11
+unfoldable pub slot_fault : List ℕ → Slot → Option Fault
 slot_fault text s =
-    pick (eqb s.mark 0) 0
-    (pick (eqb s.mark 1) (pick (fits text s) (pick (reads text s) 0 11) 24) 24)
+    pick (eqb s.mark 0) None
+    (pick (eqb s.mark 1) (pick (fits text s) (pick (reads text s) None (Some fault.Text)) (Some fault.Barred)) (Some fault.Barred))
 
 -- of two faults, the one that is named: 24 goes before 11, and 11 before 10, which happens to be the order of the numbers, greatest first
-abbrev pub graver : ℕ → ℕ → ℕ
-graver a b = pick (ltb a b) b a
+abbrev pub graver : Option Fault → Option Fault → Option Fault
+graver None b = b
+graver (Some f) None = Some f
+graver (Some f) (Some g) = Some (pick (ltb (number_of f) (number_of g)) g f)
 
-unfoldable pub slots_fault : List ℕ → List Slot → ℕ
-slots_fault text [] = 0
+unfoldable pub slots_fault : List ℕ → List Slot → Option Fault
+slots_fault text [] = None
 slots_fault text (s ∷ ss) = graver (slot_fault text s) (slots_fault text ss)
 
 -- whether a tag is given, and whether a name is given and is the null name
@@ -70,29 +75,32 @@ unfoldable pub barred : List Slot → Bool
 barred ss = pick (null_name ss) (pick (given 0x4D ss) true (pick (given 0x4E ss) true (given 0x4F ss))) false
 
 -- a track's own fault: 24 for a type outside Table 5 and for what is barred; 10 for 4D beside 4F
-unfoldable pub own_fault : Given → ℕ
-own_fault t = pick (known_type t.media_type) (pick (barred t.slots) 24 (pick (given 0x4D t.slots) (pick (given 0x4F t.slots) 10 0) 0)) 24
+unfoldable pub own_fault : Given → Option Fault
+own_fault t =
+    pick (known_type t.media_type)
+    (pick (barred t.slots) (Some fault.Barred) (pick (given 0x4D t.slots) (pick (given 0x4F t.slots) (Some fault.Twice) None) None))
+    (Some fault.Barred)
 
-unfoldable pub tracks_fault : List ℕ → List Given → ℕ
-tracks_fault text [] = 0
+unfoldable pub tracks_fault : List ℕ → List Given → Option Fault
+tracks_fault text [] = None
 tracks_fault text (t ∷ ts) = graver (graver (own_fault t) (slots_fault text t.slots)) (tracks_fault text ts)
 
 -- the fault of the IDs, after tracks of these: 24 for one over 63, 10 for one given twice
-unfoldable pub id_fault : List ℕ → ℕ → ℕ
-id_fault ids id = pick (ltb 63 id) 24 (pick (has id ids) 10 0)
+unfoldable pub id_fault : List ℕ → ℕ → Option Fault
+id_fault ids id = pick (ltb 63 id) (Some fault.Barred) (pick (has id ids) (Some fault.Twice) None)
 
-unfoldable pub ids_fault : List ℕ → List Given → ℕ
-ids_fault ids [] = 0
+unfoldable pub ids_fault : List ℕ → List Given → Option Fault
+ids_fault ids [] = None
 ids_fault ids (t ∷ ts) = graver (id_fault ids t.id) (ids_fault (t.id ∷ ids) ts)
 
 -- the fault of the whole input but for 29: 24 for words that are not one record of the material, or not whole records of tracks; else the gravest of slots, tracks and IDs
-unfoldable pub fault_of : List ℕ → List ℕ → List ℕ → ℕ
+unfoldable pub fault_of : List ℕ → List ℕ → List ℕ → Option Fault
 fault_of text ms ts =
     pick (eqb (length ms) 18)
     (pick (eqb (length ts % 23) 0)
     (graver (graver (slots_fault text (material_slots ms)) (tracks_fault text (tracks_given ts))) (ids_fault [] (tracks_given ts)))
-    24)
-    24
+    (Some fault.Barred))
+    (Some fault.Barred)
 
 -- a track that is given the wrong form; beside a null name either form is 24 already
 unfoldable pub given_wrong : Given → Bool

@@ -7,41 +7,41 @@ use native.Mathlib.Omega.{arith}
 use lib.ListN.{length}
 use lib.Dec.{eqb}
 use borrow.Author.Tests.{eq-eqb, eqb-true}
+use Rattle.std.specs.Prelude.{Result, Ok, ⊤, Option, Some, None}
 use Rattle.plate.specs.Choice.{pick}
 use Rattle.text.specs.Text.{text_ok}
 use Rattle.map_items.specs.Items.{Item, items_size}
 use Rattle.map_items.specs.Find.{found, find}
-use Rattle.map_items.specs.Judge.{bad, form_of, is_known, fault_of, counts_as, has, judge_items}
+use Rattle.map_items.specs.Judge.{bad, or_bad, form_of, is_known, fault_of, counts_as, has, judge_items}
 use Rattle.map_items.specs.declared.Section.{Section}
 use Rattle.map_items.specs.declared.Form.TheVariants as form
-use Rattle.map_items.specs.declared.Verdict.{Verdict}
-use Rattle.map_items.specs.declared.Verdict.TheVariants.{Accepted}
+use Rattle.plate.specs.declared.Refusal.{Refusal}
+use Rattle.plate.specs.declared.Fault.{Fault}
+use Rattle.plate.specs.declared.Fault.TheVariants as fault
+use Rattle.std.proofs.lemmas.Option.{none-some}
 use Rattle.map_items.proofs.Anywhere.{never, not_accepted}
 
 -- what an accepted item has met, and what follows it: unknown, or known and not seen before
-after_item : {X : Type 0} (section : Section) (seen : List ℕ) (p : ℕ) (i : Item) (is : List Item) → judge_items section seen p (i ∷ is) ≡ Accepted
-    → (fault_of (form_of section i.tag) i.value ≡ 0 → is_known (form_of section i.tag) ≡ false → judge_items section seen (p + 2 + length i.value) is ≡ Accepted → X)
-    → (fault_of (form_of section i.tag) i.value ≡ 0 → is_known (form_of section i.tag) ≡ true → has (counts_as i.tag) seen ≡ false
-    → judge_items section (counts_as i.tag ∷ seen) (p + 2 + length i.value) is ≡ Accepted → X)
+after_item : {X : Type 0} (section : Section) (seen : List ℕ) (p : ℕ) (i : Item) (is : List Item) → judge_items section seen p (i ∷ is) ≡ (Ok tt)
+    → (fault_of (form_of section i.tag) i.value ≡ None → is_known (form_of section i.tag) ≡ false → judge_items section seen (p + 2 + length i.value) is ≡ (Ok tt) → X)
+    → (fault_of (form_of section i.tag) i.value ≡ None → is_known (form_of section i.tag) ≡ true → has (counts_as i.tag) seen ≡ false
+    → judge_items section (counts_as i.tag ∷ seen) (p + 2 + length i.value) is ≡ (Ok tt) → X)
     → X
 unfolding judge_items
-after_item {X} section seen p i is e unknown known = go (eqb f 0) refl (is_known (form_of section i.tag)) refl (has c seen) refl e
+after_item {X} section seen p i is e unknown known = go (fault_of (form_of section i.tag) i.value) refl (is_known (form_of section i.tag)) refl (has c seen) refl e
   where
-    next : List ℕ → Verdict
+    next : List ℕ → Result ⊤ Refusal
     next now-seen = judge_items section now-seen (p + 2 + length i.value) is
 
     c : ℕ
     c = counts_as i.tag
 
-    f : ℕ
-    f = fault_of (form_of section i.tag) i.value
-
-    go : (a : Bool) → eqb f 0 ≡ a → (b : Bool) → is_known (form_of section i.tag) ≡ b → (d : Bool) → has c seen ≡ d
-        → pick a (pick b (pick d (bad 10 p) (next (c ∷ seen))) (next seen)) (bad f p) ≡ Accepted → X
-    go true k true l true m h = not_accepted 10 p h
-    go true k true l false m h = known (eqb-true f 0 k) l m h
-    go true k false l d m h = unknown (eqb-true f 0 k) l h
-    go false k b l d m h = not_accepted f p h
+    go : (o : Option Fault) → fault_of (form_of section i.tag) i.value ≡ o → (b : Bool) → is_known (form_of section i.tag) ≡ b → (d : Bool) → has c seen ≡ d
+        → or_bad o p (pick b (pick d (bad fault.Twice p) (next (c ∷ seen))) (next seen)) ≡ (Ok tt) → X
+    go None k true l true m h = not_accepted fault.Twice p h
+    go None k true l false m h = known k l m h
+    go None k false l d m h = unknown k l h
+    go (Some f) k b l d m h = not_accepted f p h
 
 pub has_more : (n m : ℕ) (ms : List ℕ) → has n ms ≡ true → has n (m ∷ ms) ≡ true
 unfolding has
@@ -54,7 +54,7 @@ has_more n m ms h = go (eqb n m)
 module _ (section : Section) (tag : ℕ) (known : is_known (form_of section tag) ≡ true) where
   -- a known tag that was seen does not come again
   comes_once : {X : Type 0} (seen : List ℕ) (p : ℕ) (before : List Item) (i : Item) (after : List Item) → has (counts_as tag) seen ≡ true → i.tag ≡ tag
-      → judge_items section seen p (before ++ (i ∷ after)) ≡ Accepted → X
+      → judge_items section seen p (before ++ (i ∷ after)) ≡ (Ok tt) → X
   comes_once seen p [] i after h e g =
       after_item section seen p i after g
       (λ f u n. never (sym known ∙ ap (λ (t : ℕ). is_known (form_of section t)) (sym e) ∙ u))
@@ -66,7 +66,7 @@ module _ (section : Section) (tag : ℕ) (known : is_known (form_of section tag)
 
   -- it is found where it stands
   pub found_there : (seen : List ℕ) (p : ℕ) (before : List Item) (i : Item) (after : List Item) → i.tag ≡ tag
-      → judge_items section seen p (before ++ (i ∷ after)) ≡ Accepted → find tag p (before ++ (i ∷ after)) ≡ found (p + items_size before + 2) i.value
+      → judge_items section seen p (before ++ (i ∷ after)) ≡ (Ok tt) → find tag p (before ++ (i ∷ after)) ≡ found (p + items_size before + 2) i.value
   unfolding find items_size has
   found_there seen p [] i after e g = rw (eq-eqb i.tag tag e) (ap (λ (q : ℕ). found q i.value) (omega arith))
   found_there seen p (j ∷ before) i after e g =
@@ -110,7 +110,7 @@ stands tag p (i ∷ is) q v e = go (eqb i.tag tag) refl e (stands tag (p + 2 + l
 
 -- an accepted item has no fault
 pub faultless : (section : Section) (seen : List ℕ) (p : ℕ) (before : List Item) (i : Item) (after : List Item)
-    → judge_items section seen p (before ++ (i ∷ after)) ≡ Accepted → fault_of (form_of section i.tag) i.value ≡ 0
+    → judge_items section seen p (before ++ (i ∷ after)) ≡ (Ok tt) → fault_of (form_of section i.tag) i.value ≡ None
 faultless section seen p [] i after g = after_item section seen p i after g (λ f u n. f) (λ f k m n. f)
 faultless section seen p (j ∷ before) i after g =
     after_item section seen p j (before ++ (i ∷ after)) g
@@ -118,12 +118,12 @@ faultless section seen p (j ∷ before) i after g =
     (λ f k m n. faultless section (counts_as j.tag ∷ seen) (p + 2 + length j.value) before i after n)
 
 -- a text of one byte without a fault is a lone 00
-pub lone_zero : (v : List ℕ) → fault_of form.Text v ≡ 0 → length v ≡ 1 → v ≡ 0 ∷ []
+pub lone_zero : (v : List ℕ) → fault_of form.Text v ≡ None → length v ≡ 1 → v ≡ 0 ∷ []
 unfolding fault_of text_ok
 lone_zero [] f l = absurd (omega arith)
 lone_zero (x ∷ []) f l = go (eqb x 0) refl f
   where
-    go : (b : Bool) → eqb x 0 ≡ b → ◌≡◌ {A = ℕ} (pick b 0 11) 0 → x ∷ [] ≡ 0 ∷ []
+    go : (b : Bool) → eqb x 0 ≡ b → pick b None (Some fault.Text) ≡ None → x ∷ [] ≡ 0 ∷ []
     go true k h = rw (eqb-true x 0 k)
-    go false k h = absurd (omega arith)
+    go false k h = absurd (none-some fault.Text (sym h))
 lone_zero (x ∷ y ∷ s) f l = absurd (omega arith)

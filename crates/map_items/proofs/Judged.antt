@@ -8,14 +8,16 @@ use native.Mathlib.Nat.{add-zero}
 use lib.ListN.{length, get_or, set, take, drop, replicate, get_or-replicate}
 use lib.Seq.{get_or-set_same, get_or-set_other}
 use lib.Dec.{eqb, ltb}
-use borrow.Author.Tests.{eq-eqb, ne_eqb, eqb-true, eqb-false, le-leb, lt-leb, ltb-true, ltb-false}
+use borrow.Author.Tests.{ne_eqb, eqb-true, eqb-false, le-leb, lt-leb, ltb-true, ltb-false}
+use Rattle.std.specs.Prelude.{Option, Some, None, Ok}
 use Rattle.plate.specs.Choice.{pick}
 use Rattle.plate.specs.Ended.{in_front}
 use Rattle.map_items.specs.Items.{Item, Parts, split_items, section_of, items_size}
-use Rattle.map_items.specs.Judge.{bad, and_then, form_of, is_known, fault_of, counts_as, has, on_item, judge_items, ending, judge_parts, verdict_of}
+use Rattle.map_items.specs.Judge.{bad, and_then, form_of, is_known, fault_of, counts_as, has, or_bad, on_item, judge_items, ending, judge_parts, verdict_of}
 use Rattle.map_items.specs.declared.Section.{Section}
 use Rattle.map_items.specs.declared.Section.TheVariants.{Material, Track}
-use Rattle.map_items.specs.declared.Verdict.TheVariants.{Accepted}
+use Rattle.plate.specs.declared.Fault.{Fault}
+use Rattle.plate.specs.declared.Fault.TheVariants as fault
 use Rattle.map_items.proofs.Split.{item_at, value_length, split_done, split_short, split_over, split_item}
 
 -- one item more in front is one turn of the judge
@@ -24,22 +26,20 @@ parts_turn : (section : Section) (seen : List ℕ) (p : ℕ) (i : Item) (rest : 
 unfolding judge_items items_size
 parts_turn section seen p i rest =
     let e : p + (2 + length i.value + items_size rest.list) ≡ p + 2 + length i.value + items_size rest.list = omega arith in
-    rw e (go (eqb (fault_of (form_of section i.tag) i.value) 0) (is_known (form_of section i.tag)) (has (counts_as i.tag) seen))
+    rw e (go (fault_of (form_of section i.tag) i.value) (is_known (form_of section i.tag)) (has (counts_as i.tag) seen))
   where
-    go : (a b d : Bool)
+    go : (f : Option Fault) (b d : Bool)
         → and_then
-        (pick a
+        (or_bad f p
         (pick b
-        (pick d (bad 10 p) (judge_items section (counts_as i.tag ∷ seen) (p + 2 + length i.value) rest.list))
-        (judge_items section seen (p + 2 + length i.value) rest.list))
-        (bad (fault_of (form_of section i.tag) i.value) p)) (ending (p + 2 + length i.value) rest)
-        ≡ pick a
-        (pick b (pick d (bad 10 p) (judge_parts section (counts_as i.tag ∷ seen) (p + 2 + length i.value) rest)) (judge_parts section seen (p + 2 + length i.value) rest))
-        (bad (fault_of (form_of section i.tag) i.value) p)
-    go true true true = refl
-    go true true false = refl
-    go true false d = refl
-    go false b d = refl
+        (pick d (bad fault.Twice p) (judge_items section (counts_as i.tag ∷ seen) (p + 2 + length i.value) rest.list))
+        (judge_items section seen (p + 2 + length i.value) rest.list))) (ending (p + 2 + length i.value) rest)
+        ≡ or_bad f p
+        (pick b (pick d (bad fault.Twice p) (judge_parts section (counts_as i.tag ∷ seen) (p + 2 + length i.value) rest)) (judge_parts section seen (p + 2 + length i.value) rest))
+    go None true true = refl
+    go None true false = refl
+    go None false d = refl
+    go (Some f) b d = refl
 
 -- the flags are those of the tags seen
 abbrev pub Flagged : List Bool → List ℕ → Type 0
@@ -74,16 +74,16 @@ unfolding verdict_of section_of
 start section s base = record { fuel = suc (length s); enough = omega arith; seen = []; flagged = unflagged; same = rw add-zero }
 
 module _ (section : Section) (s : List ℕ) (base : ℕ) (flags : List Bool) (at : ℕ) (l : Left section s base flags at) where
-  pub on_done : length s ≤ at → Accepted ≡ verdict_of section s base
+  pub on_done : length s ≤ at → (Ok tt) ≡ verdict_of section s base
   unfolding judge_items
   on_done h = sym (l.same ∙ rw (split_done s at l.fuel (omega (arith, l.enough)) h))
 
-  pub on_short : at < length s → length s - at < 2 → bad 8 (base + at) ≡ verdict_of section s base
+  pub on_short : at < length s → length s - at < 2 → bad fault.Overhang (base + at) ≡ verdict_of section s base
   unfolding judge_items items_size
   on_short h k = sym (l.same ∙ rw (split_short s at l.fuel (omega (arith, l.enough)) (omega arith), add-zero))
 
   module _ (h : 2 ≤ length s - at) (n : ℕ) (e : n ≡ get_or s (at + 1) 0) where
-    pub on_over : length s - at - 2 < n → bad 8 (base + at) ≡ verdict_of section s base
+    pub on_over : length s - at - 2 < n → bad fault.Overhang (base + at) ≡ verdict_of section s base
     unfolding judge_items items_size
     on_over k = sym (l.same ∙ rw (split_over s at l.fuel (omega (arith, l.enough)) n h e k, add-zero))
 
@@ -94,11 +94,11 @@ module _ (section : Section) (s : List ℕ) (base : ℕ) (flags : List Bool) (at
           l.same ∙ rw (split_item s at l.fuel (omega (arith, l.enough)) n h e k)
           (parts_turn section l.seen (base + at) (item_at s at n) (split_items (l.fuel - 1) (drop (at + 2 + n) s)) ∙ rw (value_length s at n (omega arith), a))
 
-      module _ (f : ℕ) (g : f ≡ fault_of (form_of section (get_or s at 0)) (take n (drop (at + 2) s))) where
-        pub on_fault : (f ≡ 0 → ⊥) → bad f (base + at) ≡ verdict_of section s base
-        on_fault z = sym (simp (ne_eqb _ _ z) at (rw (← g) at turn))
+      module _ (o : Option Fault) (g : o ≡ fault_of (form_of section (get_or s at 0)) (take n (drop (at + 2) s))) where
+        pub on_fault : (f : Fault) → o ≡ Some f → bad f (base + at) ≡ verdict_of section s base
+        on_fault f z = sym (simp z at (rw (← g) at turn))
 
-        module _ (z : f ≡ 0) (b : Bool) (i : b ≡ is_known (form_of section (get_or s at 0))) where
+        module _ (z : o ≡ None) (b : Bool) (i : b ≡ is_known (form_of section (get_or s at 0))) where
           pub on_unknown : b ≡ false → Left section s base flags (at + 2 + n)
           on_unknown y =
               record {
@@ -106,15 +106,15 @@ module _ (section : Section) (s : List ℕ) (base : ℕ) (flags : List Bool) (at
                 enough = omega (arith, l.enough);
                 seen = l.seen;
                 flagged = l.flagged;
-                same = simp (eq-eqb _ _ z, sym i ∙ y) at (rw (← g) at turn);
+                same = simp (z, sym i ∙ y) at (rw (← g) at turn);
               }
 
           module _ (y : b ≡ true) (t : ℕ) (r : t ≡ counts_as (get_or s at 0)) (low : 0x40 ≤ t) (high : t < 0x53) where
             was_seen : get_or flags (t - 0x40) false ≡ has (counts_as (get_or s at 0)) l.seen
             was_seen = let j : 0x40 + (t - 0x40) ≡ t = omega arith in rw (← r) (l.flagged (t - 0x40) (omega arith) ∙ rw j)
 
-            pub on_twice : get_or flags (t - 0x40) false ≡ true → bad 10 (base + at) ≡ verdict_of section s base
-            on_twice u = sym (simp (eq-eqb _ _ z, sym i ∙ y, sym was_seen ∙ u) at (rw (← g) at turn))
+            pub on_twice : get_or flags (t - 0x40) false ≡ true → bad fault.Twice (base + at) ≡ verdict_of section s base
+            on_twice u = sym (simp (z, sym i ∙ y, sym was_seen ∙ u) at (rw (← g) at turn))
 
             pub on_next : length flags ≡ 19 → get_or flags (t - 0x40) false ≡ false → Left section s base (set flags (t - 0x40) true) (at + 2 + n)
             on_next w u =
@@ -123,7 +123,7 @@ module _ (section : Section) (s : List ℕ) (base : ℕ) (flags : List Bool) (at
                   enough = omega (arith, l.enough);
                   seen = t ∷ l.seen;
                   flagged = flag t flags l.seen w low high l.flagged;
-                  same = rw r (simp (eq-eqb _ _ z, sym i ∙ y, sym was_seen ∙ u) at (rw (← g) at turn));
+                  same = rw r (simp (z, sym i ∙ y, sym was_seen ∙ u) at (rw (← g) at turn));
                 }
 
 -- a tag under 40 or over 52 is unknown everywhere

@@ -6,4 +6,5 @@ pub mod Lookup
 pub mod Numbers
 pub mod Once
 pub mod Places
+pub mod Same
 pub mod Split

@@ -9,10 +9,10 @@ use lib.ListN.{length, get_or, take, drop, replicate, length-append, length-repl
 use lib.Seq.{take-append_seam, drop-append-add}
 use lib.Dec.{ltb, eqb}
 use borrow.Author.Tests.{eq-eqb, ne_eqb, ltb-true, ltb-false}
+use Rattle.std.specs.Prelude.{Some, None}
 use Rattle.plate.specs.Choice.{pick}
 use Rattle.map_items.specs.Items.{Item, Parts, split_items, section_of, items_size, items_bytes}
 use Rattle.map_items.specs.Find.{found, find, part_of}
-use Rattle.map_items.specs.declared.Part.TheVariants.{At, Absent}
 use Rattle.map_items.proofs.Anywhere.{never}
 use Rattle.map_items.proofs.Split.{value_length, split_done, split_short, split_over, split_item, length-bytes, section_front}
 
@@ -27,16 +27,16 @@ unfolding section_of
 start tag s base = record { fuel = suc (length s); enough = omega arith; same = rw add-zero }
 
 module _ (tag : ℕ) (s : List ℕ) (base at : ℕ) (l : Left tag s base at) where
-  pub on_done : length s ≤ at → Absent ≡ part_of (find tag base (section_of s).list)
+  pub on_done : length s ≤ at → None ≡ part_of (find tag base (section_of s).list)
   unfolding find
   on_done h = sym (rw (l.same, split_done s at l.fuel (omega (arith, l.enough)) h))
 
-  pub on_short : at < length s → length s - at < 2 → Absent ≡ part_of (find tag base (section_of s).list)
+  pub on_short : at < length s → length s - at < 2 → None ≡ part_of (find tag base (section_of s).list)
   unfolding find
   on_short h k = sym (rw (l.same, split_short s at l.fuel (omega (arith, l.enough)) (omega arith)))
 
   module _ (h : 2 ≤ length s - at) (n : ℕ) (e : n ≡ get_or s (at + 1) 0) where
-    pub on_over : length s - at - 2 < n → Absent ≡ part_of (find tag base (section_of s).list)
+    pub on_over : length s - at - 2 < n → None ≡ part_of (find tag base (section_of s).list)
     unfolding find
     on_over k = sym (rw (l.same, split_over s at l.fuel (omega (arith, l.enough)) n h e k))
 
@@ -48,7 +48,7 @@ module _ (tag : ℕ) (s : List ℕ) (base at : ℕ) (l : Left tag s base at) whe
           let a : base + at + 2 + n ≡ base + (at + 2 + n) = omega arith in
           l.same ∙ rw (split_item s at l.fuel (omega (arith, l.enough)) n h e k, value_length s at n (omega arith), a)
 
-      pub on_found : get_or s at 0 ≡ tag → At (base + at + 2) n ≡ part_of (find tag base (section_of s).list)
+      pub on_found : get_or s at 0 ≡ tag → Some (record { at = base + at + 2; len = n }) ≡ part_of (find tag base (section_of s).list)
       on_found q = sym (rw (turn, eq-eqb _ _ q, value_length s at n (omega arith)))
 
       pub on_next : (get_or s at 0 ≡ tag → ⊥) → Left tag s base (at + 2 + n)

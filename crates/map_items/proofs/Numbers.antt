@@ -1,41 +1,45 @@
 -- The refusal of a section's items has a number from 8 to 11, and no bytes lack with it.
-use Prim.Native.Nat.{ℕ, ◌+◌, ◌≤◌}
+use Prim.Native.Nat.{ℕ, ◌+◌}
 use mathlib.Core.Path.{refl}
 use mathlib.Core.Bool.{Bool, true, false}
 use mathlib.Core.List.{List, [], ◌∷◌}
 use native.Mathlib.Omega.{arith}
 use lib.ListN.{length}
 use lib.Dec.{eqb}
-use borrow.Author.Tests.{ne_eqb}
+use Rattle.std.specs.Prelude.{Some, None, Result, Ok, Err, ⊤}
 use Rattle.plate.specs.Choice.{pick}
 use Rattle.plate.proofs.Numbers.{either, Among}
 use Rattle.text.specs.Text.{text_ok}
 use Rattle.map_items.specs.Items.{Item, section_of}
-use Rattle.map_items.specs.Judge.{bad, and_then, form_of, is_known, fault_of, counts_as, has, judge_items, ending, verdict_of}
+use Rattle.map_items.specs.Judge.{or_bad, and_then, form_of, is_known, fault_of, counts_as, has, judge_items, ending, verdict_of}
 use Rattle.map_items.specs.declared.Section.{Section}
 use Rattle.map_items.specs.declared.Form.{Form}
 use Rattle.map_items.specs.declared.Form.TheVariants as form
-use Rattle.map_items.specs.declared.Verdict.{Verdict}
-use Rattle.map_items.specs.declared.Verdict.TheVariants as verdict
+use Rattle.plate.specs.declared.Refusal.{Refusal}
+use Rattle.plate.specs.declared.Fault.TheVariants as fault
 
 -- an item's refusal
-abbrev pub Own : Verdict → Type 0
-Own verdict.Accepted = Unit {0}
-Own (verdict.Refused r) = Among 8 11 r
+abbrev pub Own : Result ⊤ Refusal → Type 0
+Own (Ok _) = Unit {0}
+Own (Err r) = Among 8 11 r
 
-pub both : (v w : Verdict) → Own v → Own w → Own (and_then v w)
-both verdict.Accepted w h k = k
-both (verdict.Refused r) w h k = h
+pub both : (v w : Result ⊤ Refusal) → Own v → Own w → Own (and_then v w)
+both (Ok _) w h k = k
+both (Err r) w h k = h
 
 -- an item's own fault is 9 or 11
-fault_own : (n : ℕ) → 9 ≤ n → n ≤ 11 → (b : Bool) (p : ℕ) (w : Verdict) → Own w → Own (pick (eqb (pick b 0 n) 0) w (bad (pick b 0 n) p))
-fault_own n l m true p w h = h
-fault_own n l m false p w h = rw (ne_eqb n 0 (omega arith)) (omega arith, omega arith, λ n. refl)
-
-item_own : (f : Form) (v : List ℕ) (p : ℕ) (w : Verdict) → Own w → Own (pick (eqb (fault_of f v) 0) w (bad (fault_of f v) p))
+item_own : (f : Form) (v : List ℕ) (p : ℕ) (w : Result ⊤ Refusal) → Own w → Own (or_bad (fault_of f v) p w)
 unfolding fault_of
-item_own form.Text v p w h = fault_own 11 (omega arith) (omega arith) (text_ok v) p w h
-item_own (form.Sized n) v p w h = fault_own 9 (omega arith) (omega arith) (eqb (length v) n) p w h
+item_own form.Text v p w h = go (text_ok v)
+  where
+    go : (b : Bool) → Own (or_bad (pick b None (Some fault.Text)) p w)
+    go true = h
+    go false = (omega arith, omega arith, λ n. refl)
+item_own (form.Sized n) v p w h = go (eqb (length v) n)
+  where
+    go : (b : Bool) → Own (or_bad (pick b None (Some fault.ItemSize)) p w)
+    go true = h
+    go false = (omega arith, omega arith, λ n. refl)
 item_own form.Unknown v p w h = h
 
 items_own : (c : Section) (seen : List ℕ) (p : ℕ) (is : List Item) → Own (judge_items c seen p is)

@@ -1,9 +1,8 @@
 -- Items found by tag: the bytes of the first, and the place of those bytes.
-use Rattle.std.specs.Prelude.{ℕ, ◌+◌, List, [], ◌∷◌, length, eqb}
+use Rattle.std.specs.Prelude.{ℕ, ◌+◌, List, [], ◌∷◌, length, eqb, Option, Some, None}
 use Rattle.plate.specs.Choice.{pick}
 use Rattle.map_items.specs.Items.{Item}
 use Rattle.map_items.specs.declared.Part.{Part}
-use Rattle.map_items.specs.declared.Part.TheVariants.{At, Absent}
 
 pub data Found : Type 0 where
   missing : Found
@@ -15,9 +14,9 @@ find tag p [] = missing
 find tag p (i ∷ is) = pick (eqb i.tag tag) (found (p + 2) i.value) (find tag (p + 2 + length i.value) is)
 
 -- place and stored length
-abbrev pub part_of : Found → Part
-part_of missing = Absent
-part_of (found p v) = At p (length v)
+abbrev pub part_of : Found → Option Part
+part_of missing = None
+part_of (found p v) = Some (record { at = p; len = length v })
 
 -- the bytes; none where it is missing
 abbrev pub bytes_of : Found → List ℕ

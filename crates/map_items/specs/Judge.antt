@@ -1,5 +1,5 @@
 -- The judge of a section (RDD 14, Tables 4 and 6; 01, "Map"): the first fault in walk order, at an item 8, 9, 11, 10.
-use Rattle.std.specs.Prelude.{ℕ, ◌+◌, Bool, true, false, List, [], ◌∷◌, length, eqb}
+use Rattle.std.specs.Prelude.{ℕ, ◌+◌, Bool, true, false, List, [], ◌∷◌, length, eqb, Option, Some, None, Result, Ok, Err, ⊤}
 use Rattle.plate.specs.Choice.{pick, within}
 use Rattle.plate.specs.Plate.{refusal}
 use Rattle.text.specs.Text.{text_ok}
@@ -8,16 +8,17 @@ use Rattle.map_items.specs.declared.Section.{Section}
 use Rattle.map_items.specs.declared.Section.TheVariants.{Material, Track}
 use Rattle.map_items.specs.declared.Form.{Form}
 use Rattle.map_items.specs.declared.Form.TheVariants.{Text, Sized, Unknown}
-use Rattle.map_items.specs.declared.Verdict.{Verdict}
-use Rattle.map_items.specs.declared.Verdict.TheVariants.{Accepted, Refused}
+use Rattle.plate.specs.declared.Refusal.{Refusal}
+use Rattle.plate.specs.declared.Fault.{Fault}
+use Rattle.plate.specs.declared.Fault.TheVariants as fault
 
-abbrev pub bad : ℕ → ℕ → Verdict
-bad n p = Refused (refusal n p)
+abbrev pub bad : Fault → ℕ → Result ⊤ Refusal
+bad f p = Err (refusal f p)
 
 -- the first fault of two parts of a walk
-abbrev pub and_then : Verdict → Verdict → Verdict
-and_then Accepted v = v
-and_then (Refused r) v = Refused r
+abbrev pub and_then : Result ⊤ Refusal → Result ⊤ Refusal → Result ⊤ Refusal
+and_then (Ok _) v = v
+and_then (Err r) v = Err r
 
 -- Table 4: 40 a string, 41 to 45 four bytes. Table 6: 4C and 4F strings, 4D eight bytes, 4E and 50 to 52 four. Other tags are unknown there
 unfoldable pub form_of : Section → ℕ → Form
@@ -34,11 +35,16 @@ is_known Text = true
 is_known (Sized n) = true
 is_known Unknown = false
 
--- an item's fault by itself, 0 for none: 9 for a size, 11 for bad text
-unfoldable pub fault_of : Form → List ℕ → ℕ
-fault_of Text v = pick (text_ok v) 0 11
-fault_of (Sized n) v = pick (eqb (length v) n) 0 9
-fault_of Unknown v = 0
+-- an item's fault by itself, if it has one: 9 for a size, 11 for bad text
+unfoldable pub fault_of : Form → List ℕ → Option Fault
+fault_of Text v = pick (text_ok v) None (Some fault.Text)
+fault_of (Sized n) v = pick (eqb (length v) n) None (Some fault.ItemSize)
+fault_of Unknown v = None
+
+-- a fault at place p, or what else there is
+abbrev pub or_bad : Option Fault → ℕ → Result ⊤ Refusal → Result ⊤ Refusal
+or_bad (Some f) p v = bad f p
+or_bad None p v = v
 
 -- the tag that counts for 10: 4D and 4F may not stand in one track, so 4F counts as 4D
 unfoldable pub counts_as : ℕ → ℕ
@@ -49,26 +55,25 @@ has n [] = false
 has n (m ∷ ms) = pick (eqb n m) true (has n ms)
 
 -- an item at place p, after known items that count as the tags seen; next says what follows, with the tags seen then
-abbrev pub on_item : Section → List ℕ → ℕ → Item → (List ℕ → Verdict) → Verdict
+abbrev pub on_item : Section → List ℕ → ℕ → Item → (List ℕ → Result ⊤ Refusal) → Result ⊤ Refusal
 on_item section seen p i next =
-    pick (eqb (fault_of (form_of section i.tag) i.value) 0)
+    or_bad (fault_of (form_of section i.tag) i.value) p
     (pick (is_known (form_of section i.tag))
-    (pick (has (counts_as i.tag) seen) (bad 10 p) (next (counts_as i.tag ∷ seen)))
+    (pick (has (counts_as i.tag) seen) (bad fault.Twice p) (next (counts_as i.tag ∷ seen)))
     (next seen))
-    (bad (fault_of (form_of section i.tag) i.value) p)
 
 -- the first fault of items from place p on
-unfoldable pub judge_items : Section → List ℕ → ℕ → List Item → Verdict
-judge_items section seen p [] = Accepted
+unfoldable pub judge_items : Section → List ℕ → ℕ → List Item → Result ⊤ Refusal
+judge_items section seen p [] = Ok tt
 judge_items section seen p (i ∷ is) = on_item section seen p i (λ now-seen. judge_items section now-seen (p + 2 + length i.value) is)
 
 -- 8 at the item that passes the section, if one does
-abbrev pub ending : ℕ → Parts → Verdict
-ending p s = pick s.end Accepted (bad 8 (p + items_size s.list))
+abbrev pub ending : ℕ → Parts → Result ⊤ Refusal
+ending p s = pick s.end (Ok tt) (bad fault.Overhang (p + items_size s.list))
 
-abbrev pub judge_parts : Section → List ℕ → ℕ → Parts → Verdict
+abbrev pub judge_parts : Section → List ℕ → ℕ → Parts → Result ⊤ Refusal
 judge_parts section seen p s = and_then (judge_items section seen p s.list) (ending p s)
 
 -- a section's bytes from place p on
-unfoldable pub verdict_of : Section → List ℕ → ℕ → Verdict
+unfoldable pub verdict_of : Section → List ℕ → ℕ → Result ⊤ Refusal
 verdict_of section s p = judge_parts section [] p (section_of s)

@@ -8,79 +8,34 @@ ghost use Rattle.map_items.specs.Judge.{form_of, is_known, fault_of, counts_as, 
 ghost use Rattle.plate.specs.Plate.{refusal};
 ghost use Rattle.map_items.specs.Find.{part_of, find};
 
-use plate::Refusal;
+use plate::{Fault, Refusal};
 
 // Where items stand: a tag known in one is unknown in the other.
-#[derive(Clone, Copy)]
+#[derive(Clone, Copy, Debug, PartialEq, Eq)]
 pub enum Section {
     Material,
     Track,
 }
 
 // What a tag asks of its item: text, a number of bytes, or nothing.
-#[derive(Clone, Copy)]
+#[derive(Clone, Copy, Debug, PartialEq, Eq)]
 pub enum Form {
     Text,
     Sized(usize),
     Unknown,
 }
 
-#[derive(Clone, Copy)]
-pub enum Verdict {
-    Accepted,
-    Refused(Refusal),
-}
-
 // Where some bytes of a packet stand, and how many there are: an item's value, its stored length.
-#[derive(Clone, Copy)]
-pub enum Part {
-    At(usize, usize),
-    Absent,
+#[derive(Clone, Copy, Debug, PartialEq, Eq)]
+pub struct Part {
+    pub at: usize,
+    pub len: usize,
 }
 
-pub fn refused(number: u8, place: usize) -> Verdict
-    ensures { result ≡ Verdict.Refused (refusal number place) }
+pub fn refused(fault: Fault, place: usize) -> Result<(), Refusal>
+    ensures { result ≡ Err (refusal fault place) }
 {
-    Verdict::Refused(plate::refuse(number, place))
-}
-
-fn material_form(tag: u8) -> Form
-    ensures { result ≡ form_of Section.Material tag }
-{
-    if tag == 0x40 {
-        return Form::Text;
-    }
-    if tag < 0x41 {
-        return Form::Unknown;
-    }
-    if tag <= 0x45 {
-        return Form::Sized(4);
-    }
-    Form::Unknown
-}
-
-fn track_form(tag: u8) -> Form
-    ensures { result ≡ form_of Section.Track tag }
-{
-    if tag == 0x4C {
-        return Form::Text;
-    }
-    if tag == 0x4D {
-        return Form::Sized(8);
-    }
-    if tag == 0x4E {
-        return Form::Sized(4);
-    }
-    if tag == 0x4F {
-        return Form::Text;
-    }
-    if tag < 0x50 {
-        return Form::Unknown;
-    }
-    if tag <= 0x52 {
-        return Form::Sized(4);
-    }
-    Form::Unknown
+    Err(plate::refuse(fault, place))
 }
 
 // What a tag asks in a section.
@@ -88,8 +43,17 @@ pub fn asked_of(section: Section, tag: u8) -> Form
     ensures { result ≡ form_of section tag }
 {
     match section {
-        Section::Material => material_form(tag),
-        Section::Track => track_form(tag),
+        Section::Material => match tag {
+            0x40 => Form::Text,
+            0x41..=0x45 => Form::Sized(4),
+            _ => Form::Unknown,
+        },
+        Section::Track => match tag {
+            0x4C | 0x4F => Form::Text,
+            0x4D => Form::Sized(8),
+            0x4E | 0x50..=0x52 => Form::Sized(4),
+            _ => Form::Unknown,
+        },
     }
 }
 
@@ -104,24 +68,14 @@ pub fn is_known(asked: Form) -> bool
     }
 }
 
-// What is wrong with an item by itself: 9, 11, or 0 for nothing.
-pub fn fault(asked: Form, value: &[u8]) -> u8
+// What is wrong with an item by itself: its size, or its text; or nothing.
+pub fn fault(asked: Form, value: &[u8]) -> Option<Fault>
     ensures { result ≡ fault_of asked value.now }
 {
     match asked {
-        Form::Text => {
-            if text::is_text(value) {
-                return 0;
-            }
-            plate::TEXT
-        }
-        Form::Sized(n) => {
-            if value.len() == n {
-                return 0;
-            }
-            plate::ITEM_SIZE
-        }
-        Form::Unknown => 0,
+        Form::Text if !text::is_text(value) => Some(Fault::Text),
+        Form::Sized(n) if value.len() != n => Some(Fault::ItemSize),
+        _ => None,
     }
 }
 
@@ -129,14 +83,11 @@ pub fn fault(asked: Form, value: &[u8]) -> u8
 pub fn counts_as(tag: u8) -> u8
     ensures { result ≡ counts_as tag }
 {
-    if tag == 0x4F {
-        return 0x4D;
-    }
-    tag
+    if tag == 0x4F { 0x4D } else { tag }
 }
 
 // The first fault of a section that begins at place base of its packet.
-pub fn judge(section: Section, s: &[u8], base: usize) -> Verdict
+pub fn judge(section: Section, s: &[u8], base: usize) -> Result<(), Refusal>
     requires { base + length s.now < 2 ^ 64 }
     ensures { result ≡ verdict_of section s.now base }
 {
@@ -145,34 +96,33 @@ pub fn judge(section: Section, s: &[u8], base: usize) -> Verdict
     while at < s.len() {
         let left = s.len() - at;
         if left < 2 {
-            return refused(plate::OVERHANG, base + at);
+            return refused(Fault::Overhang, base + at);
         }
         let tag = s[at];
         let n = number::wide(s[at + 1]);
         if left - 2 < n {
-            return refused(plate::OVERHANG, base + at);
+            return refused(Fault::Overhang, base + at);
         }
         let a = at + 2;
         let e = a + n;
         let asked = asked_of(section, tag);
-        let wrong = fault(asked, &s[a..e]);
-        if wrong != 0 {
+        if let Some(wrong) = fault(asked, &s[a..e]) {
             return refused(wrong, base + at);
         }
         if is_known(asked) {
             let k = number::wide(counts_as(tag)) - 0x40;
             if seen[k] {
-                return refused(plate::TWICE, base + at);
+                return refused(Fault::Twice, base + at);
             }
             seen[k] = true;
         }
         at = e;
     }
-    Verdict::Accepted
+    Ok(())
 }
 
 // The first item of a tag in a section that begins at place base of its packet: where its bytes stand, and how many.
-pub fn found(s: &[u8], base: usize, tag: u8) -> Part
+pub fn found(s: &[u8], base: usize, tag: u8) -> Option<Part>
     requires { base + length s.now < 2 ^ 64 }
     ensures { result ≡ part_of (find tag base (section_of s.now).list) }
 {
@@ -180,22 +130,25 @@ pub fn found(s: &[u8], base: usize, tag: u8) -> Part
     while at < s.len() {
         let left = s.len() - at;
         if left < 2 {
-            return Part::Absent;
+            return None;
         }
         let n = number::wide(s[at + 1]);
         if left - 2 < n {
-            return Part::Absent;
+            return None;
         }
         if s[at] == tag {
-            return Part::At(base + at + 2, n); // behind its tag and length
+            return Some(Part {
+                at: base + at + 2, // behind its tag and length
+                len: n,
+            }); // behind its tag and length
         }
         at = at + 2 + n;
     }
-    Part::Absent
+    None
 }
 
 // The same in a section that ends where an item ends, as an accepted one does: no length is tested again.
-pub fn found_in_whole(s: &[u8], base: usize, tag: u8) -> Part
+pub fn found_in_whole(s: &[u8], base: usize, tag: u8) -> Option<Part>
     requires { (base + length s.now < 2 ^ 64) × ((section_of s.now).end ≡ true) }
     ensures { result ≡ part_of (find tag base (section_of s.now).list) }
 {
@@ -203,9 +156,12 @@ pub fn found_in_whole(s: &[u8], base: usize, tag: u8) -> Part
     while at < s.len() {
         let n = number::wide(s[at + 1]);
         if s[at] == tag {
-            return Part::At(base + at + 2, n);
+            return Some(Part {
+                at: base + at + 2,
+                len: n,
+            });
         }
         at = at + 2 + n;
     }
-    Part::Absent
+    None
 }

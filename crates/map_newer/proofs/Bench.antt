@@ -7,6 +7,7 @@ use lib.ListN.{length, get_or}
 use native.Mathlib.Omega.{arith}
 use lib.Dec.{ltb}
 use borrow.Author.Tests.{ltb-true}
+use Rattle.std.specs.Prelude.{Some, None, Result, Ok, Err}
 use Rattle.plate.specs.Choice.{pick}
 use Rattle.number.specs.Number.{be, be_bytes}
 use Rattle.number.proofs.Bytes.{AllBytes, by_number}
@@ -20,7 +21,6 @@ use Rattle.map_items.specs.Find as find
 use Rattle.map_aspect.specs.Aspect.{aspect_of}
 use Rattle.map_aspect.specs.declared.Aspect.TheVariants as aspect
 use Rattle.map_answer.specs.Answer as answer
-use Rattle.map_answer.specs.declared.Value.TheVariants as value
 use Rattle.map_answer.specs.declared.Code.{Code}
 use Rattle.map_answer.specs.declared.Code.TheVariants as code
 use Rattle.map_tracks.specs.Tracks as tracks
@@ -32,7 +32,6 @@ use Rattle.map.specs.Parts as said
 use Rattle.map.specs.declared.MapSays.{MapSays}
 use Rattle.map.specs.Map.{map_at}
 use Rattle.map.proofs.Samples.{headed, up_to_rate, rate_item, M, newer, reserved, saying}
-use Rattle.map_name.specs.declared.NameAnswer.{NameAnswer}
 use Rattle.map_answer.specs.declared.Track.{Track}
 use Rattle.plate.specs.Plate.{refusal}
 use Rattle.map_newer.specs.Known as known
@@ -42,11 +41,9 @@ use Rattle.map_newer.specs.Strike as strike
 use Rattle.map_newer.specs.Strike.{in_track, set_in}
 use Rattle.map_newer.specs.Demand.{Accepted, Alike, There, Unknown, Room, Padded}
 use Rattle.map_items.proofs.Anywhere.{never}
-use Rattle.map.specs.declared.MapAnswer.{MapAnswer}
-use Rattle.map.specs.declared.MapAnswer.TheVariants as map-answer
-use Rattle.map.specs.declared.TrackAnswer.{TrackAnswer}
-use Rattle.map.specs.declared.TrackAnswer.TheVariants as track-answer
 use Rattle.plate.specs.declared.Refusal.{Refusal}
+use Rattle.map_items.specs.declared.Part.{Part}
+use Rattle.plate.specs.declared.Fault.TheVariants as fault
 use Rattle.map_newer.specs.Functions.{ReadGives, TrackGives, MapOutcomeView, says, refused, view_of_map_outcome, TrackOutcomeView, holds, view_of_track_outcome, kth_view, of_id, FillGives, Fills, Answers}
 use Rattle.map_newer.proofs.Demand.{demand}
 use Rattle.map_newer.proofs.Functions.{answers}
@@ -81,18 +78,18 @@ longer = headed 0xBC 0x30 ++ up_to_rate 0x0F 0x0B ++ rate_item 0xFF 0xFE ++ (0 �
 abbrev pub spotted : List ℕ
 spotted = headed 0xBC 0x2C ++ up_to_rate 0x0F 0x0B ++ rate_item 0xFF 0xFE ++ (1 ∷ [])
 
-seen : (s : List ℕ) (m : MapSays) → bytes_are s ≡ true → be s 6 4 ≡ length s → map_at s 0 ≡ map-answer.Says m → Accepted s
+seen : (s : List ℕ) (m : MapSays) → bytes_are s ≡ true → be s 6 4 ≡ length s → map_at s 0 ≡ Ok m → Accepted s
 seen s m b l e = record { bytes = λ i. (by_number s (bytes_are_lem s b) i).fits; alone = l; says = m; read = e }
 
 all_accepted : Accepted M × Accepted newer × Accepted reserved × Accepted shortest × Accepted longer × Accepted spotted
 unfolding bytes_are be header_at sized_at packet_at known_type mpeg_type wrong_form text_ok items.split_items items.section_of items.items_size judge.form_of judge.is_known judge.fault_of judge.counts_as judge.has judge.judge_items judge.verdict_of find.find answer.is_null answer.value_of answer.material_of tracks.split_tracks tracks.tracks_of tracks.track_over tracks.track_verdict tracks.end_verdict tracks.judge_tracks tracks.tracks_verdict tracks.is_listed tracks.listed map.after_material map.layout_of map.both_verdict map.sections_verdict map.map_verdict map.material_says map.listed_in map.answer_of map.map_at
 all_accepted = (
-  seen M (saying 1 (value.Is 0)) refl refl refl,
-  seen newer (saying 1 (value.Is 0)) refl refl refl,
-  seen reserved (saying 1 (value.Is 0)) refl refl refl,
-  seen shortest (saying 0 value.Absent) refl refl refl,
-  seen longer (saying 1 (value.Is 0)) refl refl refl,
-  seen spotted (saying 1 (value.Is 0)) refl refl refl,
+  seen M (saying 1 (Some 0)) refl refl refl,
+  seen newer (saying 1 (Some 0)) refl refl refl,
+  seen reserved (saying 1 (Some 0)) refl refl refl,
+  seen shortest (saying 0 None) refl refl refl,
+  seen longer (saying 1 (Some 0)) refl refl refl,
+  seen spotted (saying 1 (Some 0)) refl refl refl,
 )
 
 pub M-accepted : Accepted M
@@ -195,7 +192,7 @@ M-view =
     record {
       count = 1;
       material =
-          record { name = nothing; first = value.Is 0; last = value.Absent; mark_in = value.Absent; mark_out = value.Absent; size = value.Absent };
+          record { name = nothing; first = Some 0; last = None; mark_in = None; mark_out = None; size = None };
       tracks =
           record {
             id = 1;
@@ -203,7 +200,7 @@ M-view =
             rate = code.NotAvailable;
             lines = code.Absent;
             fields = code.Absent;
-            version = value.Absent;
+            version = None;
             name = bytes 3 (0x41 ∷ 0x31 ∷ 0x00 ∷ []);
             aux = nothing;
             mpeg = nothing;
@@ -224,25 +221,25 @@ pub newer_answers : Answers newer M-view
 newer_answers = rw (← M-viewed, newer_alike.1) (answers newer newer_accepted)
 
 -- with no record lent `fill` refuses M with 13; with one or more it leaves the track's record first
-pub M-too-few : (zs : List Track) (r : MapAnswer) → FillGives M [] r zs → r ≡ map-answer.Refused (refusal 13 0)
+pub M-too-few : (zs : List Track) (r : Result MapSays Refusal) → FillGives M [] r zs → r ≡ Err (refusal fault.Room 0)
 M-too-few zs r g = (M-answers.too_few [] zs r g (omega arith)).0
 
-pub M-filled : (y : Track) (ys zs : List Track) (r : MapAnswer) → FillGives M (y ∷ ys) r zs → Fills M M-view (y ∷ ys) r zs
+pub M-filled : (y : Track) (ys zs : List Track) (r : Result MapSays Refusal) → FillGives M (y ∷ ys) r zs → Fills M M-view (y ∷ ys) r zs
 M-filled y ys zs r g = M-answers.fill (y ∷ ys) zs r g (omega arith)
 
 -- the name of track 1 is A1, without its 00, on M and with `7E 01 55`; of track 2 there is none: 16
 pub M-names : NameAnswers M M-view × NameAnswers newer M-view
 M-names = (rw (← M-viewed) (names.one_answer M M-accepted).0, rw (← M-viewed, newer_alike.1) (names.one_answer newer newer_accepted).0)
 
-pub M-name : (x : NameAnswer) → PlaceGives M 1 x → view_of_name_outcome M x ≡ named (0x41 ∷ 0x31 ∷ [])
+pub M-name : (x : Result Part Refusal) → PlaceGives M 1 x → view_of_name_outcome M x ≡ named (0x41 ∷ 0x31 ∷ [])
 unfolding of_id
 M-name x g = M-names.0.place 1 x g
 
-pub newer_name : (x : NameAnswer) → PlaceGives newer 1 x → view_of_name_outcome newer x ≡ named (0x41 ∷ 0x31 ∷ [])
+pub newer_name : (x : Result Part Refusal) → PlaceGives newer 1 x → view_of_name_outcome newer x ≡ named (0x41 ∷ 0x31 ∷ [])
 unfolding of_id
 newer_name x g = M-names.1.place 1 x g
 
-pub M-no-name : (x : NameAnswer) → PlaceGives M 2 x → view_of_name_outcome M x ≡ NameOutcomeView.refused (refusal 16 0)
+pub M-no-name : (x : Result Part Refusal) → PlaceGives M 2 x → view_of_name_outcome M x ≡ NameOutcomeView.refused (refusal fault.NotThere 0)
 unfolding of_id
 M-no-name x g = M-names.0.place 2 x g
 
@@ -260,21 +257,21 @@ seen_count : MapOutcomeView → ℕ
 seen_count (says n m) = n
 seen_count (refused r) = 2
 
-one_count : (m : List ℕ) (x : MapAnswer) → Accepted m → ReadGives m x → seen_count (view_of_map_outcome m x) ≡ (view_in m).count
+one_count : (m : List ℕ) (x : Result MapSays Refusal) → Accepted m → ReadGives m x → seen_count (view_of_map_outcome m x) ≡ (view_in m).count
 unfolding seen_count
 one_count m x h g = ap seen_count ((answers m h).read x g)
 
-pub no_refusal : (r : Refusal) → ReadGives M (map-answer.Refused r) → ⊥
+pub no_refusal : (r : Refusal) → ReadGives M (Err r) → ⊥
 unfolding seen_count
-no_refusal r g = let e = one_count M (map-answer.Refused r) M-accepted g ∙ ap (λ (s : MapView). s.count) M-viewed in omega arith
+no_refusal r g = let e = one_count M (Err r) M-accepted g ∙ ap (λ (s : MapView). s.count) M-viewed in omega arith
 
-pub no_constant : (x : MapAnswer) → ReadGives M x → ReadGives shortest x → ⊥
+pub no_constant : (x : Result MapSays Refusal) → ReadGives M x → ReadGives shortest x → ⊥
 unfolding seen_count
-no_constant (map-answer.Says a) g k =
-    let e = one_count M (map-answer.Says a) M-accepted g ∙ ap (λ (s : MapView). s.count) M-viewed in
-    let f = one_count shortest (map-answer.Says a) shortest_accepted k ∙ shortest_count in
+no_constant (Ok a) g k =
+    let e = one_count M (Ok a) M-accepted g ∙ ap (λ (s : MapView). s.count) M-viewed in
+    let f = one_count shortest (Ok a) shortest_accepted k ∙ shortest_count in
     omega arith
-no_constant (map-answer.Refused r) g k = no_refusal r g
+no_constant (Err r) g k = no_refusal r g
 
 -- M and M with rate 9 do not answer alike: the rate is not available, or absent
 rate_of : TrackOutcomeView → Code
@@ -296,11 +293,11 @@ pub unlike : Alike M reserved → ⊥
 unlike e = other_rate (sym M-rate ∙ ap (λ (s : MapView). rate_of (kth_view 0 s.tracks)) e ∙ reserved_rate)
 
 -- so no reader that gives one record on all maps has the contract of `track`
-pub no_constant_track : (y : TrackAnswer) → TrackGives M 0 y → TrackGives reserved 0 y → ⊥
+pub no_constant_track : (y : Result Track Refusal) → TrackGives M 0 y → TrackGives reserved 0 y → ⊥
 unfolding rate_of shown.track_view_in
 no_constant_track y g k =
     other_rate (sym M-rate ∙ sym (ap rate_of ((answers M M-accepted).track 0 y g)) ∙ same y ∙ ap rate_of ((answers reserved reserved_accepted).track 0 y k) ∙ reserved_rate)
   where
-    same : (y : TrackAnswer) → rate_of (view_of_track_outcome M y) ≡ rate_of (view_of_track_outcome reserved y)
-    same (track-answer.Record t) = refl
-    same (track-answer.Refused r) = refl
+    same : (y : Result Track Refusal) → rate_of (view_of_track_outcome M y) ≡ rate_of (view_of_track_outcome reserved y)
+    same (Ok t) = refl
+    same (Err r) = refl

@@ -6,10 +6,9 @@ use mathlib.Core.List.{List, [], ◌∷◌, ◌++◌, map}
 use native.Mathlib.Omega.{arith}
 use lib.ListN.{length, set, replicate}
 use lib.Dec.{eqb}
+use Rattle.std.specs.Prelude.{Option, Some, None, Result, Ok, Err}
 use Rattle.plate.specs.Choice.{pick}
 use Rattle.map_tracks.specs.Tracks.{Description, Placed, is_listed, listed, record_of, kth_of, id_of, byte_of, types_of}
-use Rattle.map_tracks.specs.declared.Kth.{Kth}
-use Rattle.map_tracks.specs.declared.Kth.TheVariants as kth
 use Rattle.map_tracks.specs.declared.Types.{Types}
 use Rattle.plate.specs.Plate.{refusal}
 use Rattle.field.specs.Field.{type_with}
@@ -18,26 +17,25 @@ use Rattle.map_items.specs.Find.{find}
 use Rattle.map_answer.specs.Answer.{value_of, code_of, is_progressive, track_of}
 use Rattle.map_answer.proofs.Laws.{value_anywhere}
 use Rattle.map_answer.specs.declared.Track.{Track}
+use Rattle.map.specs.declared.MapSays.{MapSays}
+use Rattle.plate.specs.declared.Refusal.{Refusal}
+use Rattle.plate.specs.declared.Fault.TheVariants as fault
 use Rattle.map.specs.Map.{on_kth, material_says, listed_in, types_in, map_at, track_at}
 use Rattle.map.specs.View.{track_view_in, view_in}
-use Rattle.map.specs.declared.MapAnswer.{MapAnswer}
-use Rattle.map.specs.declared.MapAnswer.TheVariants as answer
-use Rattle.map.specs.declared.TrackAnswer.{TrackAnswer}
 use Rattle.map_newer.specs.Strike.{strike, set_in}
 use Rattle.map_newer.specs.Demand.{Accepted}
 use Rattle.map_newer.specs.Functions.{ReadGives, TrackGives, view_of_track_outcome, kth_view, IdGives, TypesGives, IdOutcomeView, view_of_id_outcome, of_id, types_in_view, FillGives, Fills, Answers, Functions}
 use Rattle.map_newer.proofs.Parts.{accepted_verdict, accepted_header}
-use Rattle.map.specs.declared.TrackAnswer.TheVariants as track
 use Rattle.map.proofs.Within.{part_there, packet_there, read_there, track_there}
 use Rattle.map_records.specs.Fill.{records_at, answer_for, Filled}
 use Rattle.map_records.proofs.Kept.{refused_stays, too_few, enough, beyond_stays, first_records}
 use Rattle.map_newer.proofs.Demand.{remainder_accepted, remainder_alike, set_in_alike}
 
 -- what the contracts allow is what the definitions give
-read_gives : (m : List ℕ) (x : MapAnswer) (g : ReadGives m x) → x ≡ map_at (g.before ++ (m ++ g.after)) (length g.before)
+read_gives : (m : List ℕ) (x : Result MapSays Refusal) (g : ReadGives m x) → x ≡ map_at (g.before ++ (m ++ g.after)) (length g.before)
 read_gives m x g = rw (← g.bytes, ← g.position) g.post
 
-track_gives : (m : List ℕ) (k : ℕ) (y : TrackAnswer) (g : TrackGives m k y) → y ≡ track_at (g.before ++ (m ++ g.after)) (length g.before) k
+track_gives : (m : List ℕ) (k : ℕ) (y : Result Track Refusal) (g : TrackGives m k y) → y ≡ track_at (g.before ++ (m ++ g.after)) (length g.before) k
 track_gives m k y g = rw (← g.bytes, ← g.position, ← g.number) g.post
 
 kth_seen : (m : List ℕ) (k : ℕ) (xs : List Placed) → view_of_track_outcome m (on_kth (kth_of k xs)) ≡ kth_view k (map (λ x. track_view_in m (record_of x)) xs)
@@ -48,14 +46,14 @@ kth_seen m zero (x ∷ xs) = refl
 kth_seen m (suc k) (x ∷ xs) = kth_seen m k xs
 
 -- so what `track` gives on an accepted map is the record of that number
-pub track_numbered : (m : List ℕ) → Accepted m → (k : ℕ) (t : Track) → TrackGives m k (track.Record t) → kth_of k (listed_in m) ≡ kth.Record t
-track_numbered m h k t g = go (kth_of k (listed_in m)) (track_gives m k (track.Record t) g ∙ track_there g.before m g.after (accepted_header m h) (accepted_verdict m h) k)
+pub track_numbered : (m : List ℕ) → Accepted m → (k : ℕ) (t : Track) → TrackGives m k (Ok t) → kth_of k (listed_in m) ≡ Some t
+track_numbered m h k t g = go (kth_of k (listed_in m)) (track_gives m k (Ok t) g ∙ track_there g.before m g.after (accepted_header m h) (accepted_verdict m h) k)
   where
-    go : (x : Kth) → track.Record t ≡ on_kth x → x ≡ kth.Record t
-    go (kth.Record u) e = let q : t ≡ u = cc in ap kth.Record (sym q)
-    go kth.Nothing e = absurd (let z : ◌≡◌ {A = ℕ} 0 1 = cc in omega arith)
+    go : (x : Option Track) → Ok t ≡ on_kth x → x ≡ Some t
+    go (Some u) e = let q : t ≡ u = cc in ap Some (sym q)
+    go None e = absurd (let z : ◌≡◌ {A = ℕ} 0 1 = cc in omega arith)
 
-pub id_gives : (m : List ℕ) (id : ℕ) (y : Kth) → IdGives m id y → y ≡ id_of id (listed_in m)
+pub id_gives : (m : List ℕ) (id : ℕ) (y : Option Track) → IdGives m id y → y ≡ id_of id (listed_in m)
 id_gives m id y g = rw (← g.bytes, ← g.track) g.post
 
 types_gives : (m : List ℕ) (t : Types) → TypesGives m t → t.media_types ≡ types_in m
@@ -67,7 +65,7 @@ id_seen_lem m id [] = refl
 id_seen_lem m id (x ∷ xs) = go (eqb (x.track.id - 0xC0) id) (id_seen_lem m id xs)
   where
     go : (b : Bool) → view_of_id_outcome m (id_of id xs) ≡ of_id id (map (λ x. track_view_in m (record_of x)) xs)
-        → view_of_id_outcome m (pick b (kth.Record (record_of x)) (id_of id xs)) ≡ pick b (IdOutcomeView.holds (track_view_in m (record_of x))) (of_id id (map (λ x. track_view_in m (record_of x)) xs))
+        → view_of_id_outcome m (pick b (Some (record_of x)) (id_of id xs)) ≡ pick b (IdOutcomeView.holds (track_view_in m (record_of x))) (of_id id (map (λ x. track_view_in m (record_of x)) xs))
     go true e = refl
     go false e = e
 
@@ -95,14 +93,14 @@ records_shown m [] = refl
 records_shown m (x ∷ xs) = rw (records_shown m xs)
 
 module _ (m : List ℕ) (h : Accepted m) where
-  says_there : (a b : List ℕ) → map_at (a ++ (m ++ b)) (length a) ≡ answer.Says (record { count = length (listed_in m); material = material_says m })
+  says_there : (a b : List ℕ) → map_at (a ++ (m ++ b)) (length a) ≡ Ok (record { count = length (listed_in m); material = material_says m })
   says_there a b = read_there a m b (accepted_header m h) (accepted_verdict m h)
 
   records_there : (a b : List ℕ) → records_at (a ++ (m ++ b)) (length a) ≡ map record_of (listed_in m)
   unfolding records_at
   records_there a b = rw (packet_there a m b (accepted_header m h), part_there a m b)
 
-  module _ (ys zs : List Track) (r : MapAnswer) (g : FillGives m ys r zs) where
+  module _ (ys zs : List Track) (r : Result MapSays Refusal) (g : FillGives m ys r zs) where
     abbrev s : List ℕ
     s = g.before ++ (m ++ g.after)
 
@@ -113,16 +111,16 @@ module _ (m : List ℕ) (h : Accepted m) where
     unfolding Filled
     gives = g.filled.0
 
-    short_call : length ys < length (listed_in m) → (r ≡ answer.Refused (refusal 13 0)) × (zs ≡ ys)
+    short_call : length ys < length (listed_in m) → (r ≡ Err (refusal fault.Room 0)) × (zs ≡ ys)
     short_call k =
-        let e : r ≡ answer.Refused (refusal 13 0) = gives ∙ too_few s at (length ys) _ (says_there g.before g.after) k in
-        (e, refused_stays ys s at (refusal 13 0) zs (subst (λ (x : MapAnswer). Filled ys s at x zs) e g.filled))
+        let e : r ≡ Err (refusal fault.Room 0) = gives ∙ too_few s at (length ys) _ (says_there g.before g.after) k in
+        (e, refused_stays ys s at (refusal fault.Room 0) zs (subst (λ (x : Result MapSays Refusal). Filled ys s at x zs) e g.filled))
 
     full_call : length (listed_in m) ≤ length ys → Fills m (view_in m) ys r zs
     unfolding view_in
     full_call k =
-        let e : r ≡ answer.Says (record { count = length (listed_in m); material = material_says m }) = gives ∙ enough s at (length ys) _ (says_there g.before g.after) k in
-        let f = subst (λ (x : MapAnswer). Filled ys s at x zs) e g.filled in
+        let e : r ≡ Ok (record { count = length (listed_in m); material = material_says m }) = gives ∙ enough s at (length ys) _ (says_there g.before g.after) k in
+        let f = subst (λ (x : Result MapSays Refusal). Filled ys s at x zs) e g.filled in
         record {
           answers = rw e;
           first = ap (λ (ts : List Track). map (track_view_in m) ts) (first_records ys s at _ zs f ∙ records_there g.before g.after) ∙ records_shown m (listed_in m);

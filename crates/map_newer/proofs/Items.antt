@@ -7,21 +7,23 @@ use native.Mathlib.Omega.{arith}
 use lib.ListN.{length}
 use lib.Dec.{eqb}
 use borrow.Author.Tests.{eqb-true, eq-eqb, not-false}
+use Rattle.std.specs.Prelude.{Ok, Option, Some, None}
 use Rattle.plate.specs.Choice.{pick, within}
 use Rattle.number.proofs.Bytes.{AllBytes, bytes_join, bytes_left, bytes_right}
 use Rattle.map_items.specs.Items.{Item, items_size, items_bytes}
 use Rattle.map_items.specs.Find.{missing, found, find}
-use Rattle.map_items.specs.Judge.{bad, form_of, is_known, fault_of, counts_as, has, judge_items}
+use Rattle.map_items.specs.Judge.{bad, or_bad, form_of, is_known, fault_of, counts_as, has, judge_items}
 use Rattle.map_items.specs.declared.Section.{Section}
 use Rattle.map_items.specs.declared.Section.TheVariants as section
 use Rattle.map_items.specs.declared.Form.{Form}
 use Rattle.map_items.specs.declared.Form.TheVariants as form
-use Rattle.map_items.specs.declared.Verdict.TheVariants.{Accepted}
 use Rattle.map_items.proofs.Alone.{has_more}
 use Rattle.map_items.proofs.Anywhere.{never, not_accepted, item_anywhere, judge_anywhere}
 use Rattle.map_answer.specs.Answer.{value_of, code_of}
 use Rattle.map_answer.specs.declared.Code.{Code}
 use Rattle.map_answer.specs.declared.Code.TheVariants as code
+use Rattle.plate.specs.declared.Fault.{Fault}
+use Rattle.plate.specs.declared.Fault.TheVariants as fault
 use Rattle.map.specs.Inside.{held_of}
 use Rattle.map_newer.specs.Strike.{kept, is_reserved, track_stays, set_at}
 
@@ -63,38 +65,37 @@ fewer_one n fewer more f t = go (eqb t n)
 
 -- accepted items without some of them are accepted
 pub kept_good : (section : Section) (stays : Item → Bool) (more fewer : List ℕ) (p q : ℕ) (is : List Item) → Fewer fewer more
-    → judge_items section more p is ≡ Accepted → judge_items section fewer q (kept stays is) ≡ Accepted
+    → judge_items section more p is ≡ (Ok tt) → judge_items section fewer q (kept stays is) ≡ (Ok tt)
 unfolding judge_items kept
 kept_good section stays more fewer p q [] f e = refl
 kept_good section stays more fewer p q (i ∷ is) f e =
-    go (eqb (fault_of (form_of section i.tag) i.value) 0) (is_known (form_of section i.tag)) (has c more) (stays i) refl refl refl
+    go (fault_of (form_of section i.tag) i.value) (is_known (form_of section i.tag)) (has c more) (stays i) refl refl refl
     (λ m l r. kept_good section stays m l (p + 2 + length i.value) r is) e
   where
     c : ℕ
     c = counts_as i.tag
 
-    go : (x y z w : Bool) → eqb (fault_of (form_of section i.tag) i.value) 0 ≡ x → is_known (form_of section i.tag) ≡ y → has c more ≡ z
-        → ((m l : List ℕ) (r : ℕ) → Fewer l m → judge_items section m (p + 2 + length i.value) is ≡ Accepted → judge_items section l r (kept stays is) ≡ Accepted)
-        → pick x
-        (pick y (pick z (bad 10 p) (judge_items section (c ∷ more) (p + 2 + length i.value) is)) (judge_items section more (p + 2 + length i.value) is))
-        (bad (fault_of (form_of section i.tag) i.value) p) ≡ Accepted
-        → judge_items section fewer q (pick w (i ∷ kept stays is) (kept stays is)) ≡ Accepted
-    go false y z w a b d rest e = not_accepted (fault_of (form_of section i.tag) i.value) p e
-    go true true true w a b d rest e = not_accepted 10 p e
-    go true true false true a b d rest e = rw (a, b, f c d) (rest (c ∷ more) (c ∷ fewer) (q + 2 + length i.value) (fewer_both c fewer more f) e)
-    go true true false false a b d rest e = rest (c ∷ more) fewer q (fewer_one c fewer more f) e
-    go true false z true a b d rest e = rw (a, b) (rest more fewer (q + 2 + length i.value) f e)
-    go true false z false a b d rest e = rest more fewer q f e
+    go : (x : Option Fault) (y z w : Bool) → fault_of (form_of section i.tag) i.value ≡ x → is_known (form_of section i.tag) ≡ y → has c more ≡ z
+        → ((m l : List ℕ) (r : ℕ) → Fewer l m → judge_items section m (p + 2 + length i.value) is ≡ (Ok tt) → judge_items section l r (kept stays is) ≡ (Ok tt))
+        → or_bad x p
+        (pick y (pick z (bad fault.Twice p) (judge_items section (c ∷ more) (p + 2 + length i.value) is)) (judge_items section more (p + 2 + length i.value) is)) ≡ (Ok tt)
+        → judge_items section fewer q (pick w (i ∷ kept stays is) (kept stays is)) ≡ (Ok tt)
+    go (Some t) y z w a b d rest e = not_accepted t p e
+    go None true true w a b d rest e = not_accepted fault.Twice p e
+    go None true false true a b d rest e = rw (a, b, f c d) (rest (c ∷ more) (c ∷ fewer) (q + 2 + length i.value) (fewer_both c fewer more f) e)
+    go None true false false a b d rest e = rest (c ∷ more) fewer q (fewer_one c fewer more f) e
+    go None false z true a b d rest e = rw (a, b) (rest more fewer (q + 2 + length i.value) f e)
+    go None false z false a b d rest e = rest more fewer q f e
 
 -- an unknown item has no fault, and accepted items with it are accepted
-unknown_sound : (f : Form) (v : List ℕ) → is_known f ≡ false → eqb (fault_of f v) 0 ≡ true
+unknown_sound : (f : Form) (v : List ℕ) → is_known f ≡ false → fault_of f v ≡ None
 unfolding is_known fault_of
 unknown_sound form.Text v e = never e
 unknown_sound (form.Sized n) v e = never e
 unknown_sound form.Unknown v e = refl
 
 pub set_good : (section : Section) (seen : List ℕ) (p q k : ℕ) (i : Item) (is : List Item) → is_known (form_of section i.tag) ≡ false
-    → judge_items section seen p is ≡ Accepted → judge_items section seen q (set_at k i is) ≡ Accepted
+    → judge_items section seen p is ≡ (Ok tt) → judge_items section seen q (set_at k i is) ≡ (Ok tt)
 unfolding judge_items set_at
 set_good section seen p q zero i is u e =
     rw (unknown_sound (form_of section i.tag) i.value u, u) (judge_anywhere section seen p (q + 2 + length i.value) is e)
@@ -160,11 +161,11 @@ has_first n ms = rw (eq-eqb n n refl)
 
 -- a known tag that was seen does not come again, in accepted items
 gone : (tag : ℕ) → is_known (form_of section.Track tag) ≡ true → (stays : Item → Bool) (seen : List ℕ) (p q : ℕ) (is : List Item) → has (counts_as tag) seen ≡ true
-    → judge_items section.Track seen p is ≡ Accepted → find tag q (kept stays is) ≡ missing
+    → judge_items section.Track seen p is ≡ (Ok tt) → find tag q (kept stays is) ≡ missing
 unfolding find kept judge_items
 gone tag known stays seen p q [] h e = refl
 gone tag known stays seen p q (i ∷ is) h e =
-    go (eqb i.tag tag) (stays i) (eqb (fault_of (form_of section.Track i.tag) i.value) 0) (is_known (form_of section.Track i.tag)) (has c seen) refl refl refl
+    go (eqb i.tag tag) (stays i) (fault_of (form_of section.Track i.tag) i.value) (is_known (form_of section.Track i.tag)) (has c seen) refl refl refl
     (λ z x. gone tag known stays z (p + 2 + length i.value) x is) e
   where
     c : ℕ
@@ -174,18 +175,17 @@ gone tag known stays seen p q (i ∷ is) h e =
     on true y rest = rw y (rest (q + 2 + length i.value))
     on false y rest = rest q
 
-    go : (a b x y z : Bool) → eqb i.tag tag ≡ a → is_known (form_of section.Track i.tag) ≡ y → has c seen ≡ z
-        → ((l : List ℕ) (r : ℕ) → has (counts_as tag) l ≡ true → judge_items section.Track l (p + 2 + length i.value) is ≡ Accepted → find tag r (kept stays is) ≡ missing)
-        → pick x
-        (pick y (pick z (bad 10 p) (judge_items section.Track (c ∷ seen) (p + 2 + length i.value) is)) (judge_items section.Track seen (p + 2 + length i.value) is))
-        (bad (fault_of (form_of section.Track i.tag) i.value) p) ≡ Accepted
+    go : (a b : Bool) (x : Option Fault) (y z : Bool) → eqb i.tag tag ≡ a → is_known (form_of section.Track i.tag) ≡ y → has c seen ≡ z
+        → ((l : List ℕ) (r : ℕ) → has (counts_as tag) l ≡ true → judge_items section.Track l (p + 2 + length i.value) is ≡ (Ok tt) → find tag r (kept stays is) ≡ missing)
+        → or_bad x p
+        (pick y (pick z (bad fault.Twice p) (judge_items section.Track (c ∷ seen) (p + 2 + length i.value) is)) (judge_items section.Track seen (p + 2 + length i.value) is)) ≡ (Ok tt)
         → find tag q (pick b (i ∷ kept stays is) (kept stays is)) ≡ missing
-    go a b false y z k l m rest e = not_accepted (fault_of (form_of section.Track i.tag) i.value) p e
-    go a b true true true k l m rest e = not_accepted 10 p e
-    go true b true true false k l m rest e = never (sym h ∙ ap (λ (t : ℕ). has (counts_as t) seen) (sym (eqb-true _ _ k)) ∙ m)
-    go false b true true false k l m rest e = on b k (λ r. rest (c ∷ seen) r (has_more (counts_as tag) c seen h) e)
-    go true b true false z k l m rest e = never (sym known ∙ ap (λ (t : ℕ). is_known (form_of section.Track t)) (sym (eqb-true _ _ k)) ∙ l)
-    go false b true false z k l m rest e = on b k (λ r. rest seen r h e)
+    go a b (Some t) y z k l m rest e = not_accepted t p e
+    go a b None true true k l m rest e = not_accepted fault.Twice p e
+    go true b None true false k l m rest e = never (sym h ∙ ap (λ (t : ℕ). has (counts_as t) seen) (sym (eqb-true _ _ k)) ∙ m)
+    go false b None true false k l m rest e = on b k (λ r. rest (c ∷ seen) r (has_more (counts_as tag) c seen h) e)
+    go true b None false z k l m rest e = never (sym known ∙ ap (λ (t : ℕ). is_known (form_of section.Track t)) (sym (eqb-true _ _ k)) ∙ l)
+    go false b None false z k l m rest e = on b k (λ r. rest seen r h e)
 
 -- a code is reserved where it counts as absent
 reserved_absent : (c : Code) → is_reserved c ≡ true → c ≡ code.Absent
@@ -209,12 +209,12 @@ module _ (tag : ℕ) (known : is_known (form_of section.Track tag) ≡ true) (co
   unfolding value_of code_of
   missing_code = refl
 
-  pub kept_code : (seen : List ℕ) (p q r : ℕ) (is : List Item) → judge_items section.Track seen p is ≡ Accepted
+  pub kept_code : (seen : List ℕ) (p q r : ℕ) (is : List Item) → judge_items section.Track seen p is ≡ (Ok tt)
       → code_of tag (value_of (find tag q (kept track_stays is))) ≡ code_of tag (value_of (find tag r is))
   unfolding find kept judge_items
   kept_code seen p q r [] e = refl
   kept_code seen p q r (i ∷ is) e =
-      go (eqb i.tag tag) (track_stays i) (eqb (fault_of (form_of section.Track i.tag) i.value) 0) (is_known (form_of section.Track i.tag)) (has c seen) refl refl refl refl
+      go (eqb i.tag tag) (track_stays i) (fault_of (form_of section.Track i.tag) i.value) (is_known (form_of section.Track i.tag)) (has c seen) refl refl refl refl
       (λ z x. kept_code z (p + 2 + length i.value) x (r + 2 + length i.value) is) e
     where
       c : ℕ
@@ -237,19 +237,18 @@ module _ (tag : ℕ) (known : is_known (form_of section.Track tag) ≡ true) (co
       here true y z m = rw y (anyplace (q + 2) (r + 2) v)
       here false y z m = rw m (missing_code ∙ sym (anyplace (r + 2) 0 v ∙ reserved_absent this (not-false (is_reserved this) z)))
 
-      go : (a b x y z : Bool) → eqb i.tag tag ≡ a → track_stays i ≡ b → is_known (form_of section.Track i.tag) ≡ y → has c seen ≡ z
-          → ((l : List ℕ) (x : ℕ) → judge_items section.Track l (p + 2 + length v) is ≡ Accepted
+      go : (a b : Bool) (x : Option Fault) (y z : Bool) → eqb i.tag tag ≡ a → track_stays i ≡ b → is_known (form_of section.Track i.tag) ≡ y → has c seen ≡ z
+          → ((l : List ℕ) (x : ℕ) → judge_items section.Track l (p + 2 + length v) is ≡ (Ok tt)
           → code_of tag (value_of (find tag x (kept track_stays is))) ≡ code_of tag (value_of (find tag (r + 2 + length v) is)))
-          → pick x
-          (pick y (pick z (bad 10 p) (judge_items section.Track (c ∷ seen) (p + 2 + length v) is)) (judge_items section.Track seen (p + 2 + length v) is))
-          (bad (fault_of (form_of section.Track i.tag) v) p) ≡ Accepted
+          → or_bad x p
+          (pick y (pick z (bad fault.Twice p) (judge_items section.Track (c ∷ seen) (p + 2 + length v) is)) (judge_items section.Track seen (p + 2 + length v) is)) ≡ (Ok tt)
           → code_of tag (value_of (find tag q (pick b (i ∷ kept track_stays is) (kept track_stays is)))) ≡ code_of tag (value_of (pick a (found (r + 2) v) (find tag (r + 2 + length v) is)))
-      go a b false y z k s l m rest e = not_accepted (fault_of (form_of section.Track i.tag) v) p e
-      go a b true true true k s l m rest e = not_accepted 10 p e
-      go true b true true false k s l m rest e =
+      go a b (Some t) y z k s l m rest e = not_accepted t p e
+      go a b None true true k s l m rest e = not_accepted fault.Twice p e
+      go true b None true false k s l m rest e =
           let t : i.tag ≡ tag = eqb-true _ _ k in
           let h : has (counts_as tag) (c ∷ seen) ≡ true = rw (← t) (has_first (counts_as i.tag) seen) in
           here b k (sym (stays_as i t) ∙ s) (gone tag known track_stays (c ∷ seen) (p + 2 + length v) q is h e)
-      go false b true true false k s l m rest e = later b k (λ x. rest (c ∷ seen) x e)
-      go true b true false z k s l m rest e = never (sym known ∙ ap (λ (t : ℕ). is_known (form_of section.Track t)) (sym (eqb-true _ _ k)) ∙ l)
-      go false b true false z k s l m rest e = later b k (λ x. rest seen x e)
+      go false b None true false k s l m rest e = later b k (λ x. rest (c ∷ seen) x e)
+      go true b None false z k s l m rest e = never (sym known ∙ ap (λ (t : ℕ). is_known (form_of section.Track t)) (sym (eqb-true _ _ k)) ∙ l)
+      go false b None false z k s l m rest e = later b k (λ x. rest seen x e)

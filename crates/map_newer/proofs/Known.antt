@@ -7,6 +7,7 @@ use native.Mathlib.Omega.{arith}
 use lib.ListN.{length}
 use lib.Dec.{eqb, leb}
 use borrow.Author.Tests.{leb-true, leb-false, eqb-true, eqb-false}
+use Rattle.std.specs.Prelude.{Some, None}
 use Rattle.plate.specs.Choice.{pick, within}
 use Rattle.number.specs.Number.{be}
 use Rattle.media_type.specs.MediaType.{known_type}
@@ -15,7 +16,6 @@ use Rattle.map_items.specs.Find.{found}
 use Rattle.map_items.specs.Judge.{form_of, is_known, has}
 use Rattle.map_items.specs.declared.Form.TheVariants as form
 use Rattle.map_answer.specs.Answer.{value_of, code_of, allowed}
-use Rattle.map_answer.specs.declared.Value.TheVariants as value
 use Rattle.map_answer.specs.declared.Code.TheVariants as code
 use Rattle.map_tracks.specs.Tracks.{is_listed}
 use Rattle.map.specs.Encode.{TrackParts, MapParts, described}
@@ -97,7 +97,7 @@ code_known tag codes v h = sized (eqb (length v) 4)
     go n false false false = refl
 
     sized : (b : Bool)
-        → not (is_reserved (code_of tag (pick b (value.Is (be v 0 4)) value.Absent))) ≡ pick b (has (be v 0 4) (0xFFFFFFFF ∷ 0xFFFFFFFE ∷ codes)) false
+        → not (is_reserved (code_of tag (pick b (Some (be v 0 4)) None))) ≡ pick b (has (be v 0 4) (0xFFFFFFFF ∷ 0xFFFFFFFE ∷ codes)) false
     sized true = let n = be v 0 4 in go n (eqb n 0xFFFFFFFF) (eqb n 0xFFFFFFFE) (allowed tag n) ∙ ap (λ (b : Bool). pick (eqb n 0xFFFFFFFF) true (pick (eqb n 0xFFFFFFFE) true b)) (h n)
     sized false = refl
 

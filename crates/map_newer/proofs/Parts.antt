@@ -6,19 +6,16 @@ use mathlib.Core.List.{List, [], ◌∷◌, ◌++◌, map}
 use native.Mathlib.Omega.{arith}
 use lib.ListN.{length, drop, replicate}
 use lib.Seq.{take_all}
+use Rattle.std.specs.Prelude.{Result, Ok, Err, ⊤}
 use Rattle.number.specs.Number.{be_bytes}
 use Rattle.number.proofs.Bytes.{AllBytes, one_by_one, by_number, bytes_take, bytes_drop, bytes_join, bytes_number, bytes_zeros}
 use Rattle.number.proofs.Laws as number
 use Rattle.packet.specs.Packet.{packet_at, header_at}
-use Rattle.packet.specs.declared.PacketAnswer.{PacketAnswer}
-use Rattle.packet.specs.declared.PacketAnswer.TheVariants as packet
 use Rattle.packet.proofs.Laws.{typed, whole}
 use Rattle.map_items.specs.Items.{Item, items_bytes}
 use Rattle.map_items.specs.Judge.{form_of, is_known}
 use Rattle.map_items.specs.Find.{find}
 use Rattle.map_items.specs.declared.Section.TheVariants as section
-use Rattle.map_items.specs.declared.Verdict.{Verdict}
-use Rattle.map_items.specs.declared.Verdict.TheVariants as verdict
 use Rattle.map_items.proofs.Split as items
 use Rattle.map_tracks.specs.Tracks as tracks
 use Rattle.map_tracks.specs.Inside as inside-tracks
@@ -30,8 +27,9 @@ use Rattle.map.specs.Parts.{listed_of, parts_of}
 use Rattle.map.specs.Inside.{held_of, material_view_of_items, view_of_parts, Good}
 use Rattle.map.specs.declared.Layout.{Layout}
 use Rattle.map.specs.declared.Layout.TheVariants.{Both, One, Neither}
-use Rattle.map.specs.declared.MapAnswer.{MapAnswer}
-use Rattle.map.specs.declared.MapAnswer.TheVariants as answer
+use Rattle.map.specs.declared.MapSays.{MapSays}
+use Rattle.packet.specs.declared.Packet.{Packet}
+use Rattle.plate.specs.declared.Refusal.{Refusal}
 use Rattle.map.proofs.Encoded.{Fit, header_of_encoded}
 use Rattle.map.proofs.Parts.{material_bytes, tracks_bytes_lem, parts_fit, parts_good, good_encoded}
 use Rattle.map.proofs.ViewOfParts.{same_value, length-map}
@@ -150,34 +148,34 @@ encoded_bytes p b =
 pub whole_part : (m : List ℕ) (n : ℕ) → n ≡ length m → part 0 (0 + n) m ≡ m
 whole_part m n e = take_all (0 + n - 0) m (omega arith)
 
-pub accepted_verdict : (m : List ℕ) → Accepted m → map_verdict m ≡ verdict.Accepted
+pub accepted_verdict : (m : List ℕ) → Accepted m → map_verdict m ≡ (Ok tt)
 unfolding map_at answer_of
 accepted_verdict m h = on (packet_at m 0 0xBC) refl h.read
   where
-    told : (v : Verdict) (a : MapAnswer) → map_verdict m ≡ v → on_verdict v a ≡ answer.Says h.says → map_verdict m ≡ verdict.Accepted
-    told verdict.Accepted a e f = e
-    told (verdict.Refused r) a e f = absurd (let z : ◌≡◌ {A = ℕ} 0 1 = cc in omega arith)
+    told : (v : Result ⊤ Refusal) (a : Result MapSays Refusal) → map_verdict m ≡ v → on_verdict v a ≡ Ok h.says → map_verdict m ≡ (Ok tt)
+    told (Ok _) a e f = e
+    told (Err r) a e f = absurd (let z : ◌≡◌ {A = ℕ} 0 1 = cc in omega arith)
 
-    on : (a : PacketAnswer) → packet_at m 0 0xBC ≡ a → map_from m 0 a ≡ answer.Says h.says → map_verdict m ≡ verdict.Accepted
-    on (packet.Refused r) e f = absurd (let z : ◌≡◌ {A = ℕ} 0 1 = cc in omega arith)
-    on (packet.Whole w) e f =
+    on : (a : Result Packet Refusal) → packet_at m 0 0xBC ≡ a → map_from m 0 a ≡ Ok h.says → map_verdict m ≡ (Ok tt)
+    on (Err r) e f = absurd (let z : ◌≡◌ {A = ℕ} 0 1 = cc in omega arith)
+    on (Ok w) e f =
         let g = whole m 0 w (typed m 0 0xBC w e).0 in
         let l : w.len ≡ length m = g.lens ∙ h.alone in
         told (map_verdict m) _ refl (rw (whole_part m w.len l) at f)
 
-pub read_accepted : (m : List ℕ) → header_at m 0 ≡ packet.Whole (record { packet_type = 0xBC; len = length m }) → map_verdict m ≡ verdict.Accepted
-    → map_at m 0 ≡ answer.Says (record { count = length (listed_in m); material = material_says m })
+pub read_accepted : (m : List ℕ) → header_at m 0 ≡ Ok (record { packet_type = 0xBC; len = length m }) → map_verdict m ≡ (Ok tt)
+    → map_at m 0 ≡ Ok (record { count = length (listed_in m); material = material_says m })
 unfolding map_at answer_of packet_at
 read_accepted m h v = rw (h, whole_part m (length m) refl, v)
 
 -- its header states its length
-pub accepted_header : (m : List ℕ) → Accepted m → header_at m 0 ≡ packet.Whole (record { packet_type = 0xBC; len = length m })
+pub accepted_header : (m : List ℕ) → Accepted m → header_at m 0 ≡ Ok (record { packet_type = 0xBC; len = length m })
 unfolding map_at
 accepted_header m h = on (packet_at m 0 0xBC) refl h.read
   where
-    on : (a : PacketAnswer) → packet_at m 0 0xBC ≡ a → map_from m 0 a ≡ answer.Says h.says → header_at m 0 ≡ packet.Whole (record { packet_type = 0xBC; len = length m })
-    on (packet.Refused r) e f = absurd (let z : ◌≡◌ {A = ℕ} 0 1 = cc in omega arith)
-    on (packet.Whole w) e f =
+    on : (a : Result Packet Refusal) → packet_at m 0 0xBC ≡ a → map_from m 0 a ≡ Ok h.says → header_at m 0 ≡ Ok (record { packet_type = 0xBC; len = length m })
+    on (Err r) e f = absurd (let z : ◌≡◌ {A = ℕ} 0 1 = cc in omega arith)
+    on (Ok w) e f =
         let t = typed m 0 0xBC w e in
         let g = whole m 0 w t.0 in
         t.0 ∙ rw (← t.1, ← h.alone, ← g.lens)

@@ -5,6 +5,7 @@ use mathlib.Core.Bool.{Bool, true, false}
 use mathlib.Core.List.{List, [], ◌∷◌, ◌++◌, map}
 use native.Mathlib.Omega.{arith}
 use lib.ListN.{length}
+use Rattle.std.specs.Prelude.{Ok}
 use Rattle.media_type.specs.MediaType.{mpeg_type, wrong_form}
 use Rattle.plate.specs.Choice.{pick, within}
 use Rattle.number.specs.Number.{be_bytes}
@@ -13,7 +14,6 @@ use Rattle.map_items.specs.Items.{Item, items_bytes}
 use Rattle.map_items.specs.Judge.{form_of, is_known, has, judge_items}
 use Rattle.map_items.specs.Find.{Found, missing, found, find}
 use Rattle.map_items.specs.declared.Section.TheVariants as section
-use Rattle.map_items.specs.declared.Verdict.TheVariants.{Accepted}
 use Rattle.map_items.proofs.Anywhere.{both_accepted, verdict_bytes, judge_anywhere}
 use Rattle.map_items.proofs.Split as split
 use Rattle.map_tracks.specs.Tracks.{over, track_over, track_verdict, judge_tracks, is_listed}
@@ -29,25 +29,25 @@ use Rattle.map_newer.specs.Strike.{kept, track_stays, struck_track, set_at, set_
 use Rattle.map_newer.proofs.Items.{Fewer, fewer_both, fewer_one, kept_again, kept_set, kept_good, set_good, kept_size, set_size, kept_bytes, set_bytes, kept_held, kept_code}
 
 -- a track put together is judged by its items and its end
-track_good : (type_byte : ℕ) (is : List Item) (p : ℕ) → judge_items section.Track [] p is ≡ Accepted → track_over type_byte is p ≡ Accepted → track_verdict type_byte (items_bytes is) p ≡ Accepted
+track_good : (type_byte : ℕ) (is : List Item) (p : ℕ) → judge_items section.Track [] p is ≡ (Ok tt) → track_over type_byte is p ≡ (Ok tt) → track_verdict type_byte (items_bytes is) p ≡ (Ok tt)
 unfolding track_verdict
 track_good type_byte is p e o = rw (verdict_bytes section.Track is p, e, split.section_bytes_lem is) o
 
-good_track : (type_byte : ℕ) (is : List Item) (p : ℕ) → track_verdict type_byte (items_bytes is) p ≡ Accepted → (judge_items section.Track [] p is ≡ Accepted) × (track_over type_byte is p ≡ Accepted)
+good_track : (type_byte : ℕ) (is : List Item) (p : ℕ) → track_verdict type_byte (items_bytes is) p ≡ (Ok tt) → (judge_items section.Track [] p is ≡ (Ok tt)) × (track_over type_byte is p ≡ (Ok tt))
 good_track type_byte is p e =
     let a = track_accepted type_byte (items_bytes is) p e in
-    ((both_accepted (judge_items section.Track [] p is) Accepted (sym (verdict_bytes section.Track is p) ∙ a.0)).0, rw (split.section_bytes_lem is) at a.1)
+    ((both_accepted (judge_items section.Track [] p is) (Ok tt) (sym (verdict_bytes section.Track is p) ∙ a.0)).0, rw (split.section_bytes_lem is) at a.1)
 
 -- one track more in front of accepted ones, and what such a track has met
 pub record Front (ids : List ℕ) (t : TrackParts) (ts : List TrackParts) : Type 0 where
   pub type_byte : 0x80 ≤ t.type_byte
   pub id : 0xC0 ≤ t.id
   pub fresh : has t.id ids ≡ false
-  pub items : judge_items section.Track [] 0 t.items ≡ Accepted
-  pub form : track_over t.type_byte t.items 0 ≡ Accepted
-  pub rest : judge_tracks (t.id ∷ ids) 0 (map described ts) over ≡ Accepted
+  pub items : judge_items section.Track [] 0 t.items ≡ (Ok tt)
+  pub form : track_over t.type_byte t.items 0 ≡ (Ok tt)
+  pub rest : judge_tracks (t.id ∷ ids) 0 (map described ts) over ≡ (Ok tt)
 
-pub in_front_lem : (ids : List ℕ) (t : TrackParts) (ts : List TrackParts) → judge_tracks ids 0 (map described (t ∷ ts)) over ≡ Accepted → Front ids t ts
+pub in_front_lem : (ids : List ℕ) (t : TrackParts) (ts : List TrackParts) → judge_tracks ids 0 (map described (t ∷ ts)) over ≡ (Ok tt) → Front ids t ts
 unfolding described
 in_front_lem ids t ts e =
     let w = passed ids 0 (described t) (map described ts) over e in
@@ -61,7 +61,7 @@ in_front_lem ids t ts e =
       rest = tracks_anywhere (t.id ∷ ids) _ 0 (map described ts) w.rest;
     }
 
-pub put_front : (ids : List ℕ) (t : TrackParts) (ts : List TrackParts) → Front ids t ts → judge_tracks ids 0 (map described (t ∷ ts)) over ≡ Accepted
+pub put_front : (ids : List ℕ) (t : TrackParts) (ts : List TrackParts) → Front ids t ts → judge_tracks ids 0 (map described (t ∷ ts)) over ≡ (Ok tt)
 unfolding described
 put_front ids t ts w =
     pass ids 0 (described t) (map described ts) over
@@ -99,7 +99,7 @@ same_size missing (found q w) e = absurd (let z : ◌≡◌ {A = ℕ} 0 1 = cc i
 same_size (found p v) missing e = absurd (let z : ◌≡◌ {A = ℕ} 0 1 = cc in omega arith)
 same_size (found p v) (found q w) e = let z : length v ≡ length w = cc in ap suc z
 
-pub struck_form : (type_byte : ℕ) (is : List Item) → (track_over type_byte (kept track_stays is) 0 ≡ Accepted → track_over type_byte is 0 ≡ Accepted) × (track_over type_byte is 0 ≡ Accepted → track_over type_byte (kept track_stays is) 0 ≡ Accepted)
+pub struck_form : (type_byte : ℕ) (is : List Item) → (track_over type_byte (kept track_stays is) 0 ≡ (Ok tt) → track_over type_byte is 0 ≡ (Ok tt)) × (track_over type_byte is 0 ≡ (Ok tt) → track_over type_byte (kept track_stays is) 0 ≡ (Ok tt))
 struck_form type_byte is =
     let wrong = wrong_form (type_byte - 0x80) in
     let n = same_size (find 0x4C 0 (kept track_stays is)) (find 0x4C 0 is) (kept_held 0x4C track_stays (stays 0x4C name_known refl) 0 0 is) in
@@ -107,7 +107,7 @@ struck_form type_byte is =
     (over_alike type_byte (kept track_stays is) is 0 0 n w, over_alike type_byte is (kept track_stays is) 0 0 (sym n) (sym w))
 
 pub set_form : (type_byte k : ℕ) (i : Item) (is : List Item) → is_known (form_of section.Track i.tag) ≡ false
-    → (track_over type_byte (set_at k i is) 0 ≡ Accepted → track_over type_byte is 0 ≡ Accepted) × (track_over type_byte is 0 ≡ Accepted → track_over type_byte (set_at k i is) 0 ≡ Accepted)
+    → (track_over type_byte (set_at k i is) 0 ≡ (Ok tt) → track_over type_byte is 0 ≡ (Ok tt)) × (track_over type_byte is 0 ≡ (Ok tt) → track_over type_byte (set_at k i is) 0 ≡ (Ok tt))
 set_form type_byte k i is u =
     let with = struck_form type_byte (set_at k i is) in
     let without = struck_form type_byte is in
@@ -115,15 +115,15 @@ set_form type_byte k i is u =
     (λ e. without.0 (rw same at (with.1 e)), λ e. with.0 (rw same (without.1 e)))
 
 -- accepted tracks stay accepted, struck or with an unknown item set in
-pub struck_tracks_good : (more fewer : List ℕ) (ts : List TrackParts) → Fewer fewer more → judge_tracks more 0 (map described ts) over ≡ Accepted
-    → judge_tracks fewer 0 (map described (map struck_track (listed_of ts))) over ≡ Accepted
+pub struck_tracks_good : (more fewer : List ℕ) (ts : List TrackParts) → Fewer fewer more → judge_tracks more 0 (map described ts) over ≡ (Ok tt)
+    → judge_tracks fewer 0 (map described (map struck_track (listed_of ts))) over ≡ (Ok tt)
 unfolding listed_of struck_track judge_tracks tracks.end_verdict
 struck_tracks_good more fewer [] f e = refl
 struck_tracks_good more fewer (t ∷ ts) f e = go (is_listed (described t)) (in_front_lem more t ts e) (λ l m. struck_tracks_good m l ts)
   where
     go : (b : Bool) → Front more t ts
-        → ((l m : List ℕ) → Fewer l m → judge_tracks m 0 (map described ts) over ≡ Accepted → judge_tracks l 0 (map described (map struck_track (listed_of ts))) over ≡ Accepted)
-        → judge_tracks fewer 0 (map described (map struck_track (pick b (t ∷ listed_of ts) (listed_of ts)))) over ≡ Accepted
+        → ((l m : List ℕ) → Fewer l m → judge_tracks m 0 (map described ts) over ≡ (Ok tt) → judge_tracks l 0 (map described (map struck_track (listed_of ts))) over ≡ (Ok tt))
+        → judge_tracks fewer 0 (map described (map struck_track (pick b (t ∷ listed_of ts) (listed_of ts)))) over ≡ (Ok tt)
     go true w rest =
         put_front fewer (struck_track t) (map struck_track (listed_of ts))
         (record {
@@ -137,7 +137,7 @@ struck_tracks_good more fewer (t ∷ ts) f e = go (is_listed (described t)) (in_
     go false w rest = rest fewer (t.id ∷ more) (fewer_one t.id fewer more f) w.rest
 
 pub set_tracks_good : (ids : List ℕ) (j k : ℕ) (i : Item) (ts : List TrackParts) → is_known (form_of section.Track i.tag) ≡ false
-    → judge_tracks ids 0 (map described ts) over ≡ Accepted → judge_tracks ids 0 (map described (set_in_track j k i ts)) over ≡ Accepted
+    → judge_tracks ids 0 (map described ts) over ≡ (Ok tt) → judge_tracks ids 0 (map described (set_in_track j k i ts)) over ≡ (Ok tt)
 unfolding set_in_track
 set_tracks_good ids zero k i [] u e = e
 set_tracks_good ids (suc j) k i [] u e = e
@@ -151,7 +151,7 @@ set_tracks_good ids (suc j) k i (t ∷ ts) u e =
     (record { type_byte = w.type_byte; id = w.id; fresh = w.fresh; items = w.items; form = w.form; rest = set_tracks_good (t.id ∷ ids) j k i ts u w.rest })
 
 -- a struck track says what the track says
-pub struck_track_said : (t : TrackParts) → judge_items section.Track [] 0 t.items ≡ Accepted → track_view_of_parts (struck_track t) ≡ track_view_of_parts t
+pub struck_track_said : (t : TrackParts) → judge_items section.Track [] 0 t.items ≡ (Ok tt) → track_view_of_parts (struck_track t) ≡ track_view_of_parts t
 unfolding track_view_of_parts struck_track form_of is_known
 struck_track_said t e =
     let is = t.items in
@@ -168,7 +168,7 @@ struck_track_said t e =
     )
 
 -- and the struck tracks say what the listed tracks say
-pub struck_tracks_said : (ids : List ℕ) (ts : List TrackParts) → judge_tracks ids 0 (map described ts) over ≡ Accepted
+pub struck_tracks_said : (ids : List ℕ) (ts : List TrackParts) → judge_tracks ids 0 (map described ts) over ≡ (Ok tt)
     → map track_view_of_parts (map struck_track (listed_of ts)) ≡ map track_view_of_parts (listed_of ts)
 unfolding listed_of
 struck_tracks_said ids [] e = refl

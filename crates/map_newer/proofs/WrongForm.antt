@@ -7,19 +7,19 @@ use mathlib.Core.Logic.{◌⊎◌, inl, inr}
 use native.Mathlib.Omega.{arith}
 use lib.ListN.{length, drop, length-drop, length-append}
 use lib.Seq.{length-take-le}
+use Rattle.std.specs.Prelude.{Result, Ok, Err, ⊤}
 use Rattle.plate.specs.Choice.{pick}
 use Rattle.plate.specs.Part.{part}
 use Rattle.plate.specs.Plate.{refusal}
 use Rattle.number.proofs.Laws as number
 use Rattle.packet.specs.Packet.{header_at, packet_at}
-use Rattle.packet.specs.declared.PacketAnswer.TheVariants as packet
 use Rattle.packet.proofs.Laws.{whole}
 use Rattle.number.proofs.Laws.{be_lt}
 use Rattle.map_items.specs.Items.{Item, section_of, items_size, items_bytes}
 use Rattle.map_items.specs.Judge.{bad, and_then, form_of, is_known, has, judge_items}
 use Rattle.map_items.specs.declared.Section.TheVariants as section
-use Rattle.map_items.specs.declared.Verdict.{Verdict}
-use Rattle.map_items.specs.declared.Verdict.TheVariants.{Accepted, Refused}
+use Rattle.plate.specs.declared.Refusal.{Refusal}
+use Rattle.plate.specs.declared.Fault.TheVariants as fault
 use Rattle.map_items.proofs.Anywhere.{not_accepted, judge_anywhere, verdict_accepted, verdict_bytes}
 use Rattle.map_items.proofs.Split as items
 use Rattle.map_tracks.specs.Tracks.{Description, over, tracks_of, track_over, judge_tracks, is_listed}
@@ -32,7 +32,6 @@ use Rattle.map.specs.Map.{layout_of, material_in, tracks_in, map_verdict, answer
 use Rattle.map.specs.Encode.{TrackParts, MapParts, described, encode}
 use Rattle.map.specs.Parts.{listed_of, opened, parts_of}
 use Rattle.map.specs.WrongForm.{UpToTracks, WrongIn}
-use Rattle.map.specs.declared.MapAnswer.TheVariants as answer
 use Rattle.map.proofs.Encoded.{Fit, header_of_encoded, verdict_of_encoded}
 use Rattle.map.proofs.Laws.{part_length, both_within}
 use Rattle.map.proofs.Parts.{both_words}
@@ -49,10 +48,10 @@ record Meets (ids : List ℕ) (t : TrackParts) : Type 0 where
   type_byte : 0x80 ≤ t.type_byte
   id : 0xC0 ≤ t.id
   fresh : has t.id ids ≡ false
-  items : judge_items section.Track [] 0 t.items ≡ Accepted
+  items : judge_items section.Track [] 0 t.items ≡ (Ok tt)
 
 abbrev Right : TrackParts → Type 0
-Right t = track_over t.type_byte t.items 0 ≡ Accepted
+Right t = track_over t.type_byte t.items 0 ≡ (Ok tt)
 
 abbrev HasWrong : List ℕ → List TrackParts → Type 0
 HasWrong ids [] = ⊥
@@ -72,7 +71,7 @@ wrong_opened ids p (d ∷ ds) q (o, w) = (meets, go w (λ f. wrong_opened (d.id 
 
     go : WrongAt p d q ⊎ (RightForm p d × FirstWrong (d.id ∷ ids) (behind p d) ds q) → (FirstWrong (d.id ∷ ids) (behind p d) ds q → HasWrong (d.id ∷ ids) (map opened ds))
         → (Right (opened d) → ⊥) ⊎ (Right (opened d) × HasWrong (d.id ∷ ids) (map opened ds))
-    go (inl w) later = inl (λ r. not_accepted 29 q (sym (wrong_refused p d o.items q w) ∙ over_anywhere d.type_byte is 0 (p + 4) r))
+    go (inl w) later = inl (λ r. not_accepted fault.WrongForm q (sym (wrong_refused p d o.items q w) ∙ over_anywhere d.type_byte is 0 (p + 4) r))
     go (inr (h, f)) later = inr (over_anywhere d.type_byte is (p + 4) 0 (right_over p d o.items h), later f)
 
 -- and such tracks, put together, are refused with 29
@@ -81,7 +80,7 @@ unfolding described
 otherwise ids p t m =
     record { type_byte = m.type_byte; id = m.id; fresh = m.fresh; items = verdict_bytes section.Track t.items (p + 4) ∙ rw (judge_anywhere section.Track [] 0 (p + 4) t.items m.items) }
 
-wrong_judged : (ids : List ℕ) (p : ℕ) (ts : List TrackParts) → HasWrong ids ts → (q : ℕ) × (judge_tracks ids p (map described ts) over ≡ bad 29 q)
+wrong_judged : (ids : List ℕ) (p : ℕ) (ts : List TrackParts) → HasWrong ids ts → (q : ℕ) × (judge_tracks ids p (map described ts) over ≡ bad fault.WrongForm q)
 unfolding described
 wrong_judged ids p [] w = absurd w
 wrong_judged ids p (t ∷ ts) (m, w) = go w (λ f. wrong_judged (t.id ∷ ids) (behind p (described t)) ts f)
@@ -89,22 +88,22 @@ wrong_judged ids p (t ∷ ts) (m, w) = go w (λ f. wrong_judged (t.id ∷ ids) (
     o : Otherwise ids p (described t)
     o = otherwise ids p t m
 
-    same : (v : Verdict) → track_over t.type_byte (section_of (described t).items).list (p + 4) ≡ v → track_over t.type_byte t.items (p + 4) ≡ v
+    same : (v : Result ⊤ Refusal) → track_over t.type_byte (section_of (described t).items).list (p + 4) ≡ v → track_over t.type_byte t.items (p + 4) ≡ v
     same v e = rw (items.section_bytes_lem t.items) at e
 
     to : judge_tracks ids p (map described (t ∷ ts)) over ≡ and_then (track_over t.type_byte (section_of (described t).items).list (p + 4)) (judge_tracks (t.id ∷ ids) (behind p (described t)) (map described ts) over)
     to = to_form ids p (described t) (map described ts) over o
 
-    refused : (Right t → ⊥) → (v : Verdict) → track_over t.type_byte (section_of (described t).items).list (p + 4) ≡ v → (q : ℕ) × (judge_tracks ids p (map described (t ∷ ts)) over ≡ bad 29 q)
-    refused n Accepted e = absurd (n (over_anywhere t.type_byte t.items (p + 4) 0 (same Accepted e)))
-    refused n (Refused r) e = let k = (refused_wrong p (described t) o.items r e).0 in (r.place, to ∙ rw e (ap Refused k))
+    refused : (Right t → ⊥) → (v : Result ⊤ Refusal) → track_over t.type_byte (section_of (described t).items).list (p + 4) ≡ v → (q : ℕ) × (judge_tracks ids p (map described (t ∷ ts)) over ≡ bad fault.WrongForm q)
+    refused n (Ok _) e = absurd (n (over_anywhere t.type_byte t.items (p + 4) 0 (same (Ok tt) e)))
+    refused n (Err r) e = let k = (refused_wrong p (described t) o.items r e).0 in (r.place, to ∙ rw e (ap Err k))
 
-    go : (Right t → ⊥) ⊎ (Right t × HasWrong (t.id ∷ ids) ts) → (HasWrong (t.id ∷ ids) ts → (q : ℕ) × (judge_tracks (t.id ∷ ids) (behind p (described t)) (map described ts) over ≡ bad 29 q))
-        → (q : ℕ) × (judge_tracks ids p (map described (t ∷ ts)) over ≡ bad 29 q)
+    go : (Right t → ⊥) ⊎ (Right t × HasWrong (t.id ∷ ids) ts) → (HasWrong (t.id ∷ ids) ts → (q : ℕ) × (judge_tracks (t.id ∷ ids) (behind p (described t)) (map described ts) over ≡ bad fault.WrongForm q))
+        → (q : ℕ) × (judge_tracks ids p (map described (t ∷ ts)) over ≡ bad fault.WrongForm q)
     go (inl n) later = refused n (track_over t.type_byte (section_of (described t).items).list (p + 4)) refl
     go (inr (r, f)) later =
         let l = later f in
-        let e : track_over t.type_byte (section_of (described t).items).list (p + 4) ≡ Accepted = rw (items.section_bytes_lem t.items) (over_anywhere t.type_byte t.items 0 (p + 4) r) in
+        let e : track_over t.type_byte (section_of (described t).items).list (p + 4) ≡ (Ok tt) = rw (items.section_bytes_lem t.items) (over_anywhere t.type_byte t.items 0 (p + 4) r) in
         (l.0, to ∙ rw e l.1)
 
 -- ---- struck, and with an unknown item set in
@@ -132,26 +131,26 @@ set_wrong ids zero k i (t ∷ ts) u (m, w) = (meets, go w)
     meets : Meets ids (record { type_byte = t.type_byte; id = t.id; items = set_at k i t.items })
     meets = record { type_byte = m.type_byte; id = m.id; fresh = m.fresh; items = set_good section.Track [] 0 0 k i t.items u m.items }
 
-    form : (track_over t.type_byte (set_at k i t.items) 0 ≡ Accepted → Right t) × (Right t → track_over t.type_byte (set_at k i t.items) 0 ≡ Accepted)
+    form : (track_over t.type_byte (set_at k i t.items) 0 ≡ (Ok tt) → Right t) × (Right t → track_over t.type_byte (set_at k i t.items) 0 ≡ (Ok tt))
     form = set_form t.type_byte k i t.items u
 
-    go : (Right t → ⊥) ⊎ (Right t × HasWrong (t.id ∷ ids) ts) → (track_over t.type_byte (set_at k i t.items) 0 ≡ Accepted → ⊥) ⊎ ((track_over t.type_byte (set_at k i t.items) 0 ≡ Accepted) × HasWrong (t.id ∷ ids) ts)
+    go : (Right t → ⊥) ⊎ (Right t × HasWrong (t.id ∷ ids) ts) → (track_over t.type_byte (set_at k i t.items) 0 ≡ (Ok tt) → ⊥) ⊎ ((track_over t.type_byte (set_at k i t.items) 0 ≡ (Ok tt)) × HasWrong (t.id ∷ ids) ts)
     go (inl n) = inl (λ r. n (form.0 r))
     go (inr (r, w)) = inr (form.1 r, w)
 set_wrong ids (suc j) k i (t ∷ ts) u (m, inl n) = (m, inl n)
 set_wrong ids (suc j) k i (t ∷ ts) u (m, inr (r, w)) = (m, inr (r, set_wrong (t.id ∷ ids) j k i ts u w))
 
 -- ---- what the reader says of one whole packet
-read_refused : (m : List ℕ) (q : ℕ) → header_at m 0 ≡ packet.Whole (record { packet_type = 0xBC; len = length m }) → map_verdict m ≡ bad 29 q → map_at m 0 ≡ answer.Refused (refusal 29 q)
+read_refused : (m : List ℕ) (q : ℕ) → header_at m 0 ≡ Ok (record { packet_type = 0xBC; len = length m }) → map_verdict m ≡ bad fault.WrongForm q → map_at m 0 ≡ Err (refusal fault.WrongForm q)
 unfolding map_at answer_of packet_at
 read_refused m q h v = rw (h, whole_part m (length m) refl, v)
 
 -- ---- a map whose parts fit, whose material passes and whose tracks have the wrong form
-encoded_wrong : (p : MapParts) → Fit p → judge_items section.Material [] 0 p.material ≡ Accepted → HasWrong [] p.tracks → Wrong (encode p)
+encoded_wrong : (p : MapParts) → Fit p → judge_items section.Material [] 0 p.material ≡ (Ok tt) → HasWrong [] p.tracks → Wrong (encode p)
 encoded_wrong p f g w =
     let h = header_of_encoded p f in
     let t = wrong_judged [] (22 + length (items_bytes p.material)) p.tracks w in
-    let v : map_verdict (encode p) ≡ bad 29 t.0 = verdict_of_encoded p f ∙ rw (judge_anywhere section.Material [] 0 20 p.material g, t.1) in
+    let v : map_verdict (encode p) ≡ bad fault.WrongForm t.0 = verdict_of_encoded p f ∙ rw (judge_anywhere section.Material [] 0 20 p.material g, t.1) in
     record { alone = sym (whole (encode p) 0 (record { packet_type = 0xBC; len = length (encode p) }) h).lens; place = t.0; read = read_refused (encode p) t.0 h v }
 
 -- the tracks of a section, by their items, take no more bytes than it has
@@ -164,7 +163,7 @@ opened_size (d ∷ ds) =
 
 module _ (m : List ℕ) (b : Bytes m) (h : Refused29 m) where
   there : (u : UpToTracks m) × WrongIn m u h.0
-  there = (wrong_form_lem m).only (refusal 29 h.0) h.1 refl
+  there = (wrong_form_lem m).only (refusal fault.WrongForm h.0) h.1 refl
 
   u : UpToTracks m
   u = there.0
@@ -177,7 +176,7 @@ module _ (m : List ℕ) (b : Bytes m) (h : Refused29 m) where
   unfolding parts_of
   material_whole = rw u.layout (items.section_whole (part 20 u.a m) (verdict_accepted section.Material (part 20 u.a m) 20 u.material).1)
 
-  material_good : judge_items section.Material [] 0 (parts_of m).material ≡ Accepted
+  material_good : judge_items section.Material [] 0 (parts_of m).material ≡ (Ok tt)
   unfolding parts_of
   material_good = rw u.layout (judge_anywhere section.Material [] 20 0 (section_of (part 20 u.a m)).list (verdict_accepted section.Material (part 20 u.a m) 20 u.material).0)
 

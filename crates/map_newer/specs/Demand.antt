@@ -1,5 +1,5 @@
 -- Demand 3: what the reader doesn't know in a map changes nothing. Five theorems, proved in proofs/Demand.antt.
-use Rattle.std.specs.Prelude.{ℕ, ◌+◌, ◌-◌, ◌<◌, ◌≤◌, ◌≡◌, false, List, length, get_or, drop, replicate}
+use Rattle.std.specs.Prelude.{ℕ, ◌+◌, ◌-◌, ◌<◌, ◌≤◌, ◌≡◌, false, List, length, get_or, drop, replicate, Ok}
 use Rattle.number.specs.Number.{be}
 use Rattle.map_items.specs.Items.{Item}
 use Rattle.map_items.specs.Judge.{form_of, is_known}
@@ -9,7 +9,6 @@ use Rattle.map.specs.Map.{layout_of, material_in, tracks_in, map_at}
 use Rattle.map.specs.declared.Layout.{Layout}
 use Rattle.map.specs.declared.Layout.TheVariants.{Both, One, Neither}
 use Rattle.map.specs.declared.MapSays.{MapSays}
-use Rattle.map.specs.declared.MapAnswer.TheVariants.{Says}
 use Rattle.map.specs.View.{view_in}
 use Rattle.map.specs.Parts.{parts_of}
 use Rattle.map_newer.specs.Known.{Clean, Kept}
@@ -24,7 +23,7 @@ pub record Accepted (m : List ℕ) : Type 0 where
   pub bytes : Bytes m
   pub alone : be m 6 4 ≡ length m
   pub says : MapSays
-  pub read : map_at m 0 ≡ Says says
+  pub read : map_at m 0 ≡ Ok says
 
 -- alike, places aside: the count, the material answer and the records in order, with the bytes that the places point at for the places
 abbrev pub Alike : List ℕ → List ℕ → Type 0

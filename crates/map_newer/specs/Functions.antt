@@ -1,5 +1,5 @@
 -- Demand 3 through the functions of `map`: `read`, `track`, `id_of` and `types_of`, over their contracts as the checker reads them (`Reads.Post`), and through `map_records::fill`. Proved in proofs/Functions.antt.
-use Rattle.std.specs.Prelude.{ℕ, zero, suc, ◌<◌, ◌≤◌, ◌≡◌, List, [], ◌∷◌, ◌++◌, map as each, length, take, drop, set, replicate, eqb}
+use Rattle.std.specs.Prelude.{ℕ, zero, suc, ◌<◌, ◌≤◌, ◌≡◌, List, [], ◌∷◌, ◌++◌, map as each, length, take, drop, set, replicate, eqb, Option, Some, None, Result, Ok, Err}
 use Rattle.plate.specs.Choice.{pick}
 use contract.Lifetimes.{Lfts}
 use borrow.Fn.Kinds.{ended_of, Dens}
@@ -10,13 +10,9 @@ use Rattle.field.specs.Field.{type_with}
 use Rattle.map_items.specs.Items.{Item}
 use Rattle.map_answer.specs.Answer.{is_progressive}
 use Rattle.map_answer.specs.declared.Track.{Track}
-use Rattle.map_tracks.specs.declared.Kth.{Kth}
-use Rattle.map_tracks.specs.declared.Kth.TheVariants as kth
 use Rattle.map_tracks.specs.declared.Types.{Types}
-use Rattle.map.specs.declared.MapAnswer.{MapAnswer}
-use Rattle.map.specs.declared.MapAnswer.TheVariants as map
-use Rattle.map.specs.declared.TrackAnswer.{TrackAnswer}
-use Rattle.map.specs.declared.TrackAnswer.TheVariants as track
+use Rattle.map.specs.declared.MapSays.{MapSays}
+use Rattle.plate.specs.declared.Fault.TheVariants as fault
 use Rattle.map.specs.View.{MaterialView, TrackView, MapView, material_view_in, track_view_in, view_in}
 use Rattle.map.proofs.read.Kinds as read-kinds
 use Rattle.map.proofs.read.Reads as read-reads
@@ -31,7 +27,7 @@ use Rattle.map_newer.specs.Strike.{strike, Boundary, set_in}
 use Rattle.map_newer.specs.Demand.{Accepted, There, Unknown, Room}
 
 -- x is an outcome that the contract of `read` allows where the packet m stands, wherever that is in lent bytes
-pub record ReadGives (m : List ℕ) (x : MapAnswer) : Type 0 where
+pub record ReadGives (m : List ℕ) (x : Result MapSays Refusal) : Type 0 where
   pub lifetimes : Lfts 1
   pub arguments : Dens lifetimes read-kinds.ps
   pub exit : AtExit (ended_of 1 read-kinds.ps read-kinds.r) lifetimes
@@ -42,7 +38,7 @@ pub record ReadGives (m : List ℕ) (x : MapAnswer) : Type 0 where
   pub post : read-reads.Post lifetimes arguments x exit
 
 -- y is an outcome that the contract of `track` allows there, for the track of number k
-pub record TrackGives (m : List ℕ) (k : ℕ) (y : TrackAnswer) : Type 0 where
+pub record TrackGives (m : List ℕ) (k : ℕ) (y : Result Track Refusal) : Type 0 where
   pub lifetimes : Lfts 1
   pub arguments : Dens lifetimes track-kinds.ps
   pub exit : AtExit (ended_of 1 track-kinds.ps track-kinds.r) lifetimes
@@ -54,7 +50,7 @@ pub record TrackGives (m : List ℕ) (k : ℕ) (y : TrackAnswer) : Type 0 where
   pub post : track-reads.Post lifetimes arguments y exit
 
 -- y is an outcome that the contract of `id_of` allows on the packet's bytes, for the track of an ID
-pub record IdGives (m : List ℕ) (id : ℕ) (y : Kth) : Type 0 where
+pub record IdGives (m : List ℕ) (id : ℕ) (y : Option Track) : Type 0 where
   pub lifetimes : Lfts 1
   pub arguments : Dens lifetimes id-kinds.ps
   pub exit : AtExit (ended_of 1 id-kinds.ps id-kinds.r) lifetimes
@@ -71,7 +67,7 @@ pub record TypesGives (m : List ℕ) (t : Types) : Type 0 where
   pub post : types-reads.Post lifetimes arguments t exit
 
 -- a call of `map_records::fill` on the lent records ys, where the packet m stands, gave r and left zs; its contract is the definition `Filled`
-pub record FillGives (m : List ℕ) (ys : List Track) (r : MapAnswer) (zs : List Track) : Type 0 where
+pub record FillGives (m : List ℕ) (ys : List Track) (r : Result MapSays Refusal) (zs : List Track) : Type 0 where
   pub before : List ℕ
   pub after : List ℕ
   pub filled : Filled ys (before ++ (m ++ after)) (length before) r zs
@@ -81,21 +77,21 @@ pub data MapOutcomeView : Type 0 where
   says : ℕ → MaterialView → MapOutcomeView
   refused : Refusal → MapOutcomeView
 
-abbrev pub view_of_map_outcome : List ℕ → MapAnswer → MapOutcomeView
-view_of_map_outcome m (map.Says a) = says a.count (material_view_in m a.material)
-view_of_map_outcome m (map.Refused r) = refused r
+abbrev pub view_of_map_outcome : List ℕ → Result MapSays Refusal → MapOutcomeView
+view_of_map_outcome m (Ok a) = says a.count (material_view_in m a.material)
+view_of_map_outcome m (Err r) = refused r
 
 pub data TrackOutcomeView : Type 0 where
   holds : TrackView → TrackOutcomeView
   refused : Refusal → TrackOutcomeView
 
-abbrev pub view_of_track_outcome : List ℕ → TrackAnswer → TrackOutcomeView
-view_of_track_outcome m (track.Record t) = holds (track_view_in m t)
-view_of_track_outcome m (track.Refused r) = TrackOutcomeView.refused r
+abbrev pub view_of_track_outcome : List ℕ → Result Track Refusal → TrackOutcomeView
+view_of_track_outcome m (Ok t) = holds (track_view_in m t)
+view_of_track_outcome m (Err r) = TrackOutcomeView.refused r
 
 -- the k-th record, from 0; 16 where there is none
 unfoldable pub kth_view : ℕ → List TrackView → TrackOutcomeView
-kth_view k [] = TrackOutcomeView.refused (refusal 16 0)
+kth_view k [] = TrackOutcomeView.refused (refusal fault.NotThere 0)
 kth_view zero (t ∷ ts) = holds t
 kth_view (suc k) (t ∷ ts) = kth_view k ts
 
@@ -104,9 +100,9 @@ pub data IdOutcomeView : Type 0 where
   holds : TrackView → IdOutcomeView
   nothing : IdOutcomeView
 
-abbrev pub view_of_id_outcome : List ℕ → Kth → IdOutcomeView
-view_of_id_outcome m (kth.Record t) = IdOutcomeView.holds (track_view_in m t)
-view_of_id_outcome m kth.Nothing = nothing
+abbrev pub view_of_id_outcome : List ℕ → Option Track → IdOutcomeView
+view_of_id_outcome m (Some t) = IdOutcomeView.holds (track_view_in m t)
+view_of_id_outcome m None = nothing
 
 unfoldable pub of_id : ℕ → List TrackView → IdOutcomeView
 of_id id [] = nothing
@@ -118,20 +114,20 @@ types_in_view types [] = types
 types_in_view types (t ∷ ts) = types_in_view (set types t.id (type_with (is_progressive t.fields) t.media_type)) ts
 
 -- a call that is given room leaves the answer's records first, and those past the last as they were
-pub record Fills (m : List ℕ) (answer : MapView) (ys : List Track) (r : MapAnswer) (zs : List Track) : Type 0 where
+pub record Fills (m : List ℕ) (answer : MapView) (ys : List Track) (r : Result MapSays Refusal) (zs : List Track) : Type 0 where
   pub answers : view_of_map_outcome m r ≡ says answer.count answer.material
   pub first : each (track_view_in m) (take answer.count zs) ≡ answer.tracks
   pub beyond : drop answer.count zs ≡ drop answer.count ys
 
 -- whatever the functions give on m is the one answer; that they give one, and not one for all maps, is shown on M and others in proofs/Bench.antt
 pub record Answers (m : List ℕ) (answer : MapView) : Type 0 where
-  pub read : (x : MapAnswer) → ReadGives m x → view_of_map_outcome m x ≡ says answer.count answer.material
-  pub track : (k : ℕ) (y : TrackAnswer) → TrackGives m k y → view_of_track_outcome m y ≡ kth_view k answer.tracks
-  pub by_id_lem : (id : ℕ) (y : Kth) → IdGives m id y → view_of_id_outcome m y ≡ of_id id answer.tracks
+  pub read : (x : Result MapSays Refusal) → ReadGives m x → view_of_map_outcome m x ≡ says answer.count answer.material
+  pub track : (k : ℕ) (y : Result Track Refusal) → TrackGives m k y → view_of_track_outcome m y ≡ kth_view k answer.tracks
+  pub by_id_lem : (id : ℕ) (y : Option Track) → IdGives m id y → view_of_id_outcome m y ≡ of_id id answer.tracks
   pub types : (t : Types) → TypesGives m t → t.media_types ≡ types_in_view (replicate 64 0) answer.tracks
   -- 13 where fewer records are lent than the answer has tracks, and every record as it was; nowhere else
-  pub too_few : (ys zs : List Track) (r : MapAnswer) → FillGives m ys r zs → length ys < answer.count → (r ≡ map.Refused (refusal 13 0)) × (zs ≡ ys)
-  pub fill : (ys zs : List Track) (r : MapAnswer) → FillGives m ys r zs → answer.count ≤ length ys → Fills m answer ys r zs
+  pub too_few : (ys zs : List Track) (r : Result MapSays Refusal) → FillGives m ys r zs → length ys < answer.count → (r ≡ Err (refusal fault.Room 0)) × (zs ≡ ys)
+  pub fill : (ys zs : List Track) (r : Result MapSays Refusal) → FillGives m ys r zs → answer.count ≤ length ys → Fills m answer ys r zs
 
 pub record Functions : Type 0 where
   -- on an accepted map, and on its remainder

@@ -8,6 +8,7 @@ use native.Mathlib.Omega.{arith}
 use lib.ListN.{length}
 use lib.Dec.{eqb, leb}
 use borrow.Author.Tests.{ne_eqb, eqb-true, eqb-false, leb-true, lt-leb}
+use Rattle.std.specs.Prelude.{Some, None, Result, Ok, Err, ⊤}
 use Rattle.plate.specs.Choice.{pick, within}
 use Rattle.plate.specs.Plate.{refusal}
 use Rattle.plate.specs.declared.Refusal.{Refusal}
@@ -15,10 +16,8 @@ use Rattle.media_type.specs.MediaType.{known_type, mpeg_type, wrong_form}
 use Rattle.map_items.specs.Items.{Item, section_of, items_size}
 use Rattle.map_items.specs.Find.{Found, missing, found, find, part_of}
 use Rattle.map_items.specs.Judge.{bad, form_of, is_known, has, judge_items, verdict_of}
-use Rattle.map_items.specs.declared.Part.TheVariants.{At, Absent}
 use Rattle.map_items.specs.declared.Section.TheVariants as section
-use Rattle.map_items.specs.declared.Verdict.{Verdict}
-use Rattle.map_items.specs.declared.Verdict.TheVariants.{Accepted, Refused}
+use Rattle.plate.specs.declared.Fault.TheVariants as fault
 use Rattle.map_items.proofs.Anywhere.{never, not_accepted, verdict_accepted}
 use Rattle.map_items.proofs.Places.{not_refused}
 use Rattle.map_items.proofs.Few.{under}
@@ -26,6 +25,7 @@ use Rattle.map_items.proofs.Alone.{found_there, stands, faultless, lone_zero}
 use Rattle.map_answer.specs.Answer.{is_null}
 use Rattle.map_tracks.specs.Tracks.{Description, on_form, track_over, track_verdict, is_listed}
 use Rattle.map_tracks.specs.WrongForm.{ItemIn, null_name, mpeg_types, WrongTag, WrongAt, RightForm}
+use Rattle.map_items.proofs.Same.{same_part}
 
 -- whether an item was found, and how long it is; where it stands is no matter
 unfoldable pub size_of : Found → ℕ
@@ -41,11 +41,11 @@ null_size (found p v) = go (eqb (length v) 1) refl
     go true k = let n = eqb-true (length v) 1 k in rw n
     go false k = rw (k, ne_eqb (suc (length v)) 2 (λ e. eqb-false (length v) 1 k (omega arith)))
 
-form_size : (x y : Found) → size_of x ≡ size_of y → on_form x ≡ Accepted → on_form y ≡ Accepted
+form_size : (x y : Found) → size_of x ≡ size_of y → on_form x ≡ (Ok tt) → on_form y ≡ (Ok tt)
 unfolding size_of
 form_size x missing e h = refl
 form_size missing (found q w) e h = absurd (omega arith)
-form_size (found p v) (found q w) e h = not_accepted 29 (p - 2) h
+form_size (found p v) (found q w) e h = not_accepted fault.WrongForm (p - 2) h
 
 pub size_anywhere : (tag p q : ℕ) (is : List Item) → size_of (find tag p is) ≡ size_of (find tag q is)
 unfolding find size_of
@@ -61,7 +61,7 @@ size_anywhere tag p q (i ∷ is) = go (eqb i.tag tag) (size_anywhere tag (p + 2 
 -- a track's end passes where that of another track of its type does, if name and wrong form are in both or in neither, and as long
 pub over_alike : (type_byte : ℕ) (is js : List Item) (p q : ℕ) → size_of (find 0x4C p is) ≡ size_of (find 0x4C q js)
     → size_of (find (wrong_form (type_byte - 0x80)) p is) ≡ size_of (find (wrong_form (type_byte - 0x80)) q js)
-    → track_over type_byte is p ≡ Accepted → track_over type_byte js q ≡ Accepted
+    → track_over type_byte is p ≡ (Ok tt) → track_over type_byte js q ≡ (Ok tt)
 unfolding track_over
 over_alike type_byte is js p q n w =
     let a = null_size (find 0x4C p is) in
@@ -71,12 +71,12 @@ over_alike type_byte is js p q n w =
     wrong : ℕ
     wrong = wrong_form (type_byte - 0x80)
 
-    go : (k z : Bool) → pick k (pick z Accepted (on_form (find wrong p is))) Accepted ≡ Accepted → pick k (pick z Accepted (on_form (find wrong q js))) Accepted ≡ Accepted
+    go : (k z : Bool) → pick k (pick z (Ok tt) (on_form (find wrong p is))) (Ok tt) ≡ (Ok tt) → pick k (pick z (Ok tt) (on_form (find wrong q js))) (Ok tt) ≡ (Ok tt)
     go true true h = refl
     go true false h = form_size (find wrong p is) (find wrong q js) w h
     go false z h = refl
 
-pub over_anywhere : (type_byte : ℕ) (is : List Item) (p q : ℕ) → track_over type_byte is p ≡ Accepted → track_over type_byte is q ≡ Accepted
+pub over_anywhere : (type_byte : ℕ) (is : List Item) (p q : ℕ) → track_over type_byte is p ≡ (Ok tt) → track_over type_byte is q ≡ (Ok tt)
 over_anywhere type_byte is p q = over_alike type_byte is is p q (size_anywhere 0x4C p q is) (size_anywhere (wrong_form (type_byte - 0x80)) p q is)
 
 -- the verdict, by what was asked: the type, the wrong form, the name
@@ -87,42 +87,42 @@ module _ (type_byte : ℕ) (is : List Item) (p : ℕ) where
   abbrev null : Bool
   null = is_null (part_of (find 0x4C p is))
 
-  pub on_unlisted : known_type (type_byte - 0x80) ≡ false → Accepted ≡ track_over type_byte is p
+  pub on_unlisted : known_type (type_byte - 0x80) ≡ false → (Ok tt) ≡ track_over type_byte is p
   unfolding track_over
   on_unlisted e = rw e
 
-  pub on_absent : part_of wrong ≡ Absent → Accepted ≡ track_over type_byte is p
+  pub on_absent : part_of wrong ≡ None → (Ok tt) ≡ track_over type_byte is p
   unfolding track_over
   on_absent = go (known_type (type_byte - 0x80)) null wrong
     where
-      go : (k z : Bool) (x : Found) → part_of x ≡ Absent → Accepted ≡ pick k (pick z Accepted (on_form x)) Accepted
+      go : (k z : Bool) (x : Found) → part_of x ≡ None → (Ok tt) ≡ pick k (pick z (Ok tt) (on_form x)) (Ok tt)
       go false z x e = refl
       go true true x e = refl
       go true false missing e = refl
       go true false (found q v) e = absurd (let z : ◌≡◌ {A = ℕ} 0 1 = cc in omega arith)
 
-  pub on_null : null ≡ true → Accepted ≡ track_over type_byte is p
+  pub on_null : null ≡ true → (Ok tt) ≡ track_over type_byte is p
   unfolding track_over
   on_null e = rw e (go (known_type (type_byte - 0x80)))
     where
-      go : (k : Bool) → Accepted ≡ pick k Accepted Accepted
+      go : (k : Bool) → ◌≡◌ {A = Result ⊤ Refusal} (Ok tt) (pick k (Ok tt) (Ok tt))
       go true = refl
       go false = refl
 
-  pub on_wrong : known_type (type_byte - 0x80) ≡ true → null ≡ false → (q n : ℕ) → part_of wrong ≡ At q n → bad 29 (q - 2) ≡ track_over type_byte is p
+  pub on_wrong : known_type (type_byte - 0x80) ≡ true → null ≡ false → (q n : ℕ) → part_of wrong ≡ Some (record { at = q; len = n }) → bad fault.WrongForm (q - 2) ≡ track_over type_byte is p
   unfolding track_over
   on_wrong k z q n = rw (k, z) (go wrong)
     where
-      go : (x : Found) → part_of x ≡ At q n → bad 29 (q - 2) ≡ on_form x
+      go : (x : Found) → part_of x ≡ Some (record { at = q; len = n }) → bad fault.WrongForm (q - 2) ≡ on_form x
       go missing e = absurd (let z : ◌≡◌ {A = ℕ} 0 1 = cc in omega arith)
-      go (found r v) e = let a : q ≡ r = cc in ap (λ (y : ℕ). bad 29 (y - 2)) a
+      go (found r v) e = ap (λ (y : ℕ). bad fault.WrongForm (y - 2)) (sym (same_part r (length v) q n e).0)
 
 -- a track's verdict: its items', or that of its end
-pub track_refused : (type_byte : ℕ) (s : List ℕ) (p : ℕ) (r : Refusal) → verdict_of section.Track s p ≡ Refused r → Refused r ≡ track_verdict type_byte s p
+pub track_refused : (type_byte : ℕ) (s : List ℕ) (p : ℕ) (r : Refusal) → verdict_of section.Track s p ≡ Err r → Err r ≡ track_verdict type_byte s p
 unfolding track_verdict
 track_refused type_byte s p r e = rw e
 
-pub track_passed : (type_byte : ℕ) (s : List ℕ) (p : ℕ) → verdict_of section.Track s p ≡ Accepted → track_over type_byte (section_of s).list p ≡ track_verdict type_byte s p
+pub track_passed : (type_byte : ℕ) (s : List ℕ) (p : ℕ) → verdict_of section.Track s p ≡ (Ok tt) → track_over type_byte (section_of s).list p ≡ track_verdict type_byte s p
 unfolding track_verdict
 track_passed type_byte s p e = rw e
 
@@ -180,11 +180,11 @@ sought_wrong media_type = go (mpeg_type media_type) (mpeg_listed media_type)
     go false e = inr (λ m. never (sym m ∙ sym e), refl)
 
 -- ---- a track whose items have passed
-module _ (p : ℕ) (d : Description) (g : verdict_of section.Track d.items (p + 4) ≡ Accepted) where
+module _ (p : ℕ) (d : Description) (g : verdict_of section.Track d.items (p + 4) ≡ (Ok tt)) where
   abbrev is : List Item
   is = (section_of d.items).list
 
-  good : judge_items section.Track [] (p + 4) is ≡ Accepted
+  good : judge_items section.Track [] (p + 4) is ≡ (Ok tt)
   good = (verdict_accepted section.Track d.items (p + 4) g).0
 
   -- an item of a known tag is found where it stands
@@ -209,30 +209,30 @@ module _ (p : ℕ) (d : Description) (g : verdict_of section.Track d.items (p + 
   null_found n = rw (found_at 0x4C name_known null_name refl n)
 
   -- 29 where the wrong form stands
-  pub wrong_refused : (q : ℕ) → WrongAt p d q → track_over d.type_byte is (p + 4) ≡ bad 29 q
+  pub wrong_refused : (q : ℕ) → WrongAt p d q → track_over d.type_byte is (p + 4) ≡ bad fault.WrongForm q
   unfolding track_over is_listed
   wrong_refused q w = rw w.listed (go (is_null (part_of (find 0x4C (p + 4) is))) refl)
     where
       place : p + 4 + items_size w.among.before + 2 - 2 ≡ q
       place = omega (arith, w.place)
 
-      go : (z : Bool) → is_null (part_of (find 0x4C (p + 4) is)) ≡ z → pick z Accepted (on_form (find (wrong_form (d.type_byte - 0x80)) (p + 4) is)) ≡ bad 29 q
+      go : (z : Bool) → is_null (part_of (find 0x4C (p + 4) is)) ≡ z → pick z (Ok tt) (on_form (find (wrong_form (d.type_byte - 0x80)) (p + 4) is)) ≡ bad fault.WrongForm q
       go true k = absurd (w.no_null_name (found_null k))
-      go false k = rw (found_at (wrong_form (d.type_byte - 0x80)) (form_known (d.type_byte - 0x80)) w.item (tag_sought (d.type_byte - 0x80) w.item.tag w.form) w.among) (ap (bad 29) place)
+      go false k = rw (found_at (wrong_form (d.type_byte - 0x80)) (form_known (d.type_byte - 0x80)) w.item (tag_sought (d.type_byte - 0x80) w.item.tag w.form) w.among) (ap (bad fault.WrongForm) place)
 
-  pub refused_wrong : (r : Refusal) → track_over d.type_byte is (p + 4) ≡ Refused r → (r ≡ refusal 29 r.place) × WrongAt p d r.place
+  pub refused_wrong : (r : Refusal) → track_over d.type_byte is (p + 4) ≡ Err r → (r ≡ refusal fault.WrongForm r.place) × WrongAt p d r.place
   unfolding track_over is_listed
   refused_wrong r = go (known_type (d.type_byte - 0x80)) refl (is_null (part_of (find 0x4C (p + 4) is))) refl (find (wrong_form (d.type_byte - 0x80)) (p + 4) is) refl
     where
       go : (k : Bool) → known_type (d.type_byte - 0x80) ≡ k → (z : Bool) → is_null (part_of (find 0x4C (p + 4) is)) ≡ z
           → (x : Found) → find (wrong_form (d.type_byte - 0x80)) (p + 4) is ≡ x
-          → pick k (pick z Accepted (on_form x)) Accepted ≡ Refused r → (r ≡ refusal 29 r.place) × WrongAt p d r.place
+          → pick k (pick z (Ok tt) (on_form x)) (Ok tt) ≡ Err r → (r ≡ refusal fault.WrongForm r.place) × WrongAt p d r.place
       go false k z n x f e = not_refused r e
       go true k true n x f e = not_refused r e
       go true k false n missing f e = not_refused r e
       go true k false n (found q v) f e =
           let s = stands (wrong_form (d.type_byte - 0x80)) (p + 4) is q v f in
-          let a : refusal 29 (q - 2) ≡ r = cc in
+          let a : refusal fault.WrongForm (q - 2) ≡ r = cc in
           rw (← a) (
             refl,
             record {
@@ -246,12 +246,12 @@ module _ (p : ℕ) (d : Description) (g : verdict_of section.Track d.items (p + 
           )
 
   -- so the track's end passes just where the form is right
-  pub over_right : track_over d.type_byte is (p + 4) ≡ Accepted → RightForm p d
-  over_right e q w = not_accepted 29 q (sym (wrong_refused q w) ∙ e)
+  pub over_right : track_over d.type_byte is (p + 4) ≡ (Ok tt) → RightForm p d
+  over_right e q w = not_accepted fault.WrongForm q (sym (wrong_refused q w) ∙ e)
 
-  pub right_over : RightForm p d → track_over d.type_byte is (p + 4) ≡ Accepted
+  pub right_over : RightForm p d → track_over d.type_byte is (p + 4) ≡ (Ok tt)
   right_over h = go (track_over d.type_byte is (p + 4)) refl
     where
-      go : (v : Verdict) → track_over d.type_byte is (p + 4) ≡ v → v ≡ Accepted
-      go Accepted e = refl
-      go (Refused r) e = absurd (h r.place (refused_wrong r e).1)
+      go : (v : Result ⊤ Refusal) → track_over d.type_byte is (p + 4) ≡ v → v ≡ (Ok tt)
+      go (Ok _) e = refl
+      go (Err r) e = absurd (h r.place (refused_wrong r e).1)

@@ -8,13 +8,13 @@ use native.Mathlib.Nat.{add-zero}
 use lib.ListN.{length, get_or, take, drop}
 use lib.Dec.{ltb}
 use borrow.Author.Tests.{lt-ltb, le-ltb, ltb-true, ltb-false}
+use Rattle.std.specs.Prelude.{Result, Ok, Err, ⊤}
 use Rattle.plate.specs.Choice.{pick}
 use Rattle.number.specs.Number.{be}
 use Rattle.map_items.specs.Judge.{bad, and_then, has}
-use Rattle.map_items.specs.declared.Verdict.{Verdict}
-use Rattle.map_items.specs.declared.Verdict.TheVariants.{Accepted, Refused}
 use Rattle.plate.specs.declared.Refusal.{Refusal}
 use Rattle.map_tracks.specs.declared.Seen.{Seen}
+use Rattle.plate.specs.declared.Fault.TheVariants as fault
 use Rattle.map_tracks.specs.Inside.{holds, Empty, Adds}
 use Rattle.map_tracks.specs.Tracks.{Descriptions, split_tracks, tracks_of, on_bytes, track_verdict, end_verdict, judge_tracks, tracks_verdict}
 use Rattle.map_tracks.proofs.Split.{items_length, split_done, split_short, split_over, split_track}
@@ -23,7 +23,7 @@ use Rattle.map_tracks.proofs.Split.{items_length, split_done, split_short, split
 abbrev pub Held : Seen → List ℕ → Type 0
 Held seen ids = (k : ℕ) → 0xC0 ≤ k → k < 256 → holds seen k ≡ has k ids
 
-abbrev judge_from : List ℕ → ℕ → Descriptions → Verdict
+abbrev judge_from : List ℕ → ℕ → Descriptions → Result ⊤ Refusal
 judge_from ids p ds = judge_tracks ids p ds.list ds.end
 
 pub record Left (s : List ℕ) (base : ℕ) (seen : Seen) (at : ℕ) : Type 0 where
@@ -38,24 +38,24 @@ unfolding tracks_verdict tracks_of has
 start s base seen e = record { fuel = suc (length s); enough = omega arith; ids = []; held = e; same = rw add-zero }
 
 module _ (s : List ℕ) (base : ℕ) (seen : Seen) (at : ℕ) (l : Left s base seen at) where
-  pub on_done : length s ≤ at → Accepted ≡ tracks_verdict s base
+  pub on_done : length s ≤ at → (Ok tt) ≡ tracks_verdict s base
   unfolding judge_tracks end_verdict
   on_done h = sym (l.same ∙ rw (split_done s at l.fuel (omega (arith, l.enough)) h))
 
-  pub on_short : at < length s → length s - at < 4 → bad 8 (base + at) ≡ tracks_verdict s base
+  pub on_short : at < length s → length s - at < 4 → bad fault.Overhang (base + at) ≡ tracks_verdict s base
   unfolding judge_tracks end_verdict
   on_short h k = sym (l.same ∙ rw (split_short s at l.fuel (omega (arith, l.enough)) h k))
 
   module _ (h : 4 ≤ length s - at) where
-    abbrev rest : ℕ → Verdict
+    abbrev rest : ℕ → Result ⊤ Refusal
     rest n =
-        pick (has (get_or s (at + 1) 0) l.ids) (bad 10 (base + at))
+        pick (has (get_or s (at + 1) 0) l.ids) (bad fault.Twice (base + at))
         (and_then (track_verdict (get_or s at 0) (take n (drop (at + 4) s)) (base + (at + 4)))
         (judge_from (get_or s (at + 1) 0 ∷ l.ids) (base + (at + 4 + n)) (split_tracks (l.fuel - 1) (drop (at + 4 + n) s))))
 
     -- a header at a place: its bytes first, then its length
     module _ (n : ℕ) (e : n ≡ be s (at + 2) 2) where
-      turn_over : length s - at - 4 < n → tracks_verdict s base ≡ on_bytes (get_or s at 0) (get_or s (at + 1) 0) (base + at) (bad 8 (base + at))
+      turn_over : length s - at - 4 < n → tracks_verdict s base ≡ on_bytes (get_or s at 0) (get_or s (at + 1) 0) (base + at) (bad fault.Overhang (base + at))
       unfolding judge_tracks end_verdict
       turn_over k = l.same ∙ rw (split_over s at l.fuel (omega (arith, l.enough)) n h e k)
 
@@ -74,28 +74,28 @@ module _ (s : List ℕ) (base : ℕ) (seen : Seen) (at : ℕ) (l : Left s base s
         go true q = f (ltb-true _ _ q)
         go false q = g (ltb-false _ _ q)
 
-    pub on_type : get_or s at 0 < 0x80 → bad 12 (base + at) ≡ tracks_verdict s base
+    pub on_type : get_or s at 0 < 0x80 → bad fault.TypeOrId (base + at) ≡ tracks_verdict s base
     on_type k =
         either (be s (at + 2) 2)
         (λ m. sym (turn_over (be s (at + 2) 2) refl m ∙ simp (lt-ltb _ _ k)))
         (λ m. sym (turn (be s (at + 2) 2) refl m ∙ simp (lt-ltb _ _ k)))
 
     module _ (k : 0x80 ≤ get_or s at 0) where
-      pub on_id : get_or s (at + 1) 0 < 0xC0 → bad 12 (base + at) ≡ tracks_verdict s base
+      pub on_id : get_or s (at + 1) 0 < 0xC0 → bad fault.TypeOrId (base + at) ≡ tracks_verdict s base
       on_id j =
           either (be s (at + 2) 2)
           (λ m. sym (turn_over (be s (at + 2) 2) refl m ∙ simp (le-ltb _ _ k, lt-ltb _ _ j)))
           (λ m. sym (turn (be s (at + 2) 2) refl m ∙ simp (le-ltb _ _ k, lt-ltb _ _ j)))
 
       module _ (j : 0xC0 ≤ get_or s (at + 1) 0) (n : ℕ) (e : n ≡ be s (at + 2) 2) where
-        pub on_over : length s - at - 4 < n → bad 8 (base + at) ≡ tracks_verdict s base
+        pub on_over : length s - at - 4 < n → bad fault.Overhang (base + at) ≡ tracks_verdict s base
         on_over m = sym (turn_over n e m ∙ simp (le-ltb _ _ k, le-ltb _ _ j))
 
         module _ (m : n ≤ length s - at - 4) (u : get_or s (at + 1) 0 < 256) where
           turned : tracks_verdict s base ≡ rest n
           turned = turn n e m ∙ simp (le-ltb _ _ k, le-ltb _ _ j)
 
-          pub on_twice : holds seen (get_or s (at + 1) 0) ≡ true → bad 10 (base + at) ≡ tracks_verdict s base
+          pub on_twice : holds seen (get_or s (at + 1) 0) ≡ true → bad fault.Twice (base + at) ≡ tracks_verdict s base
           on_twice y = sym (turned ∙ simp (sym (l.held _ j u) ∙ y))
 
           module _ (y : holds seen (get_or s (at + 1) 0) ≡ false) where
@@ -104,10 +104,10 @@ module _ (s : List ℕ) (base : ℕ) (seen : Seen) (at : ℕ) (l : Left s base s
                 (judge_from (get_or s (at + 1) 0 ∷ l.ids) (base + (at + 4 + n)) (split_tracks (l.fuel - 1) (drop (at + 4 + n) s)))
             judged = turned ∙ simp (sym (l.held _ j u) ∙ y)
 
-            pub on_refused : (r : Refusal) → track_verdict (get_or s at 0) (take n (drop (at + 4) s)) (base + (at + 4)) ≡ Refused r → Refused r ≡ tracks_verdict s base
+            pub on_refused : (r : Refusal) → track_verdict (get_or s at 0) (take n (drop (at + 4) s)) (base + (at + 4)) ≡ Err r → Err r ≡ tracks_verdict s base
             on_refused r v = sym (judged ∙ rw v)
 
-            pub on_next : (next : Seen) → track_verdict (get_or s at 0) (take n (drop (at + 4) s)) (base + (at + 4)) ≡ Accepted → Adds seen (get_or s (at + 1) 0) next
+            pub on_next : (next : Seen) → track_verdict (get_or s at 0) (take n (drop (at + 4) s)) (base + (at + 4)) ≡ (Ok tt) → Adds seen (get_or s (at + 1) 0) next
                 → Left s base next (at + 4 + n)
             unfolding has
             on_next next v w =

@@ -6,13 +6,13 @@ use mathlib.Core.Bool.{Bool, true, false}
 use native.Mathlib.Omega.{arith}
 use lib.ListN.{length, get_or, take, drop, set}
 use borrow.Author.Tests.{eq-eqb, ne_eqb}
+use Rattle.std.specs.Prelude.{Some}
 use Rattle.plate.specs.Choice.{pick}
 use Rattle.number.specs.Number.{be}
 use Rattle.map_items.specs.Items.{section_of}
 use Rattle.map_answer.specs.Answer.{track_of}
 use Rattle.map_tracks.specs.Tracks.{Description, Placed, split_tracks, tracks_of, is_listed, listed, record_of, kth_of, id_of, byte_of, types_of}
 use Rattle.map_tracks.specs.Inside.{key_of, keyed_of}
-use Rattle.map_tracks.specs.declared.Kth.TheVariants.{Record}
 use Rattle.map_tracks.proofs.Split.{track_at, items_length, split_done, split_short, split_over, split_track}
 
 -- what is left of the tracks from a place on, and what there is of the whole, for any way to measure them
@@ -113,7 +113,7 @@ module _ (s : List ℕ) (base at n : ℕ) (h : n ≤ length s - at - 4) (named :
   pass_listed z e ds = rw (listed_first (track_at s at n) (base + at) ds e, ne_eqb _ _ z, next)
 
   pub here : key_of named before (get_or s (at + 1) 0) ≡ wanted → is_listed (track_at s at n) ≡ true → (ds : List Description)
-      → keyed_of named before wanted (listed (base + at) (track_at s at n ∷ ds)) ≡ Record (track_of (get_or s at 0) (get_or s (at + 1) 0) (base + (at + 4)) (section_of (take n (drop (at + 4) s))).list)
+      → keyed_of named before wanted (listed (base + at) (track_at s at n ∷ ds)) ≡ Some (track_of (get_or s at 0) (get_or s (at + 1) 0) (base + (at + 4)) (section_of (take n (drop (at + 4) s))).list)
   unfolding keyed_of record_of
   here z e ds =
       let a : base + at + 4 ≡ base + (at + 4) = omega arith in

@@ -6,10 +6,10 @@ use mathlib.Core.List.{List, [], ◌∷◌}
 use native.Mathlib.Omega.{arith}
 use lib.ListN.{length, take, drop}
 use lib.Dec.{leb}
+use Rattle.std.specs.Prelude.{Ok}
 use Rattle.plate.specs.Choice.{pick}
 use Rattle.plate.specs.Ended.{none, in_front}
 use Rattle.number.proofs.Bytes.{AllBytes, bytes_drop}
-use Rattle.map_items.specs.declared.Verdict.TheVariants.{Accepted}
 use Rattle.map_items.proofs.Few.{Fresh, Between, few}
 use Rattle.map_tracks.specs.Tracks.{Description, End, hangs, split_tracks, tracks_of, judge_tracks, tracks_verdict, is_listed, listed}
 use Rattle.map_tracks.proofs.Anywhere.{passed}
@@ -28,17 +28,17 @@ as_many : (ds : List Description) → length (ids_of ds) ≡ length ds
 as_many [] = refl
 as_many (d ∷ ds) = ap suc (as_many ds)
 
-accepted_fresh : (ids : List ℕ) (p : ℕ) (ds : List Description) (e : End) → judge_tracks ids p ds e ≡ Accepted → Fresh ids (ids_of ds)
+accepted_fresh : (ids : List ℕ) (p : ℕ) (ds : List Description) (e : End) → judge_tracks ids p ds e ≡ (Ok tt) → Fresh ids (ids_of ds)
 accepted_fresh ids p [] e h = tt
 accepted_fresh ids p (d ∷ ds) e h =
     let w = passed ids p d ds e h in (w.fresh, accepted_fresh (d.id ∷ ids) (p + 4 + length d.items) ds e w.rest)
 
-accepted_between : (ids : List ℕ) (p : ℕ) (ds : List Description) (e : End) → ByteIds ds → judge_tracks ids p ds e ≡ Accepted → Between 0xC0 64 (ids_of ds)
+accepted_between : (ids : List ℕ) (p : ℕ) (ds : List Description) (e : End) → ByteIds ds → judge_tracks ids p ds e ≡ (Ok tt) → Between 0xC0 64 (ids_of ds)
 accepted_between ids p [] e b h = tt
 accepted_between ids p (d ∷ ds) e b h =
     let w = passed ids p d ds e h in (w.id, b.0, accepted_between (d.id ∷ ids) (p + 4 + length d.items) ds e b.1 w.rest)
 
-pub judged_64 : (p : ℕ) (ds : List Description) (e : End) → ByteIds ds → judge_tracks [] p ds e ≡ Accepted → length ds ≤ 64
+pub judged_64 : (p : ℕ) (ds : List Description) (e : End) → ByteIds ds → judge_tracks [] p ds e ≡ (Ok tt) → length ds ≤ 64
 judged_64 p ds e b h = rw (← as_many ds) (few 0xC0 64 (ids_of ds) (accepted_fresh [] p ds e h) (accepted_between [] p ds e b h))
 
 -- no more tracks are listed than there are
@@ -70,7 +70,7 @@ byte_ids : (s : List ℕ) → AllBytes s → ByteIds (tracks_of s).list
 unfolding tracks_of
 byte_ids s b = split_ids (suc (length s)) s b
 
-pub section_64 : (s : List ℕ) (base p : ℕ) → AllBytes s → tracks_verdict s base ≡ Accepted → length (listed p (tracks_of s).list) ≤ 64
+pub section_64 : (s : List ℕ) (base p : ℕ) → AllBytes s → tracks_verdict s base ≡ (Ok tt) → length (listed p (tracks_of s).list) ≤ 64
 unfolding tracks_verdict
 section_64 s base p b h =
     let m = judged_64 base (tracks_of s).list (tracks_of s).end (byte_ids s b) h in

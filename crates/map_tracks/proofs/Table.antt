@@ -8,20 +8,18 @@ use lib.ListN.{length, get_or, set, length-set}
 use lib.Seq.{get_or-set_same, get_or-set_other}
 use lib.Dec.{eqb, ltb}
 use borrow.Author.Tests.{eqb-true, eqb-false, ltb-true, ltb-false}
+use Rattle.std.specs.Prelude.{Option, Some, None, Ok}
 use Rattle.plate.specs.Choice.{pick}
 use Rattle.media_type.specs.MediaType.{known_type}
 use Rattle.media_type.proofs.Laws.{known_under}
 use Rattle.field.specs.Field.{type_with, has_mark, type_alone}
 use Rattle.field.proofs.Laws.{mark_back, type_back}
 use Rattle.map_items.specs.Items.{section_of}
-use Rattle.map_items.specs.declared.Verdict.TheVariants.{Accepted}
 use Rattle.map_answer.specs.Answer.{is_progressive, track_of}
 use Rattle.map_answer.specs.declared.Track.{Track}
 use Rattle.map_answer.proofs.Laws.{value_anywhere}
 use Rattle.map_tracks.specs.Tracks.{Description, Placed, End, is_listed, listed, record_of, id_of, byte_of, types_of, judge_tracks}
 use Rattle.map_tracks.specs.Table.{NoneProgressive, plain_types_of}
-use Rattle.map_tracks.specs.declared.Kth.{Kth}
-use Rattle.map_tracks.specs.declared.Kth.TheVariants.{Record, Nothing}
 use Rattle.map_tracks.proofs.Anywhere.{Passed, passed}
 use Rattle.map_tracks.proofs.ById.{id_numbered, not_among, number_own}
 
@@ -29,9 +27,9 @@ use Rattle.map_tracks.proofs.ById.{id_numbered, not_among, number_own}
 abbrev pub byte_in : Track → ℕ
 byte_in t = type_with (is_progressive t.fields) t.media_type
 
-abbrev pub byte_for : Kth → ℕ → ℕ
-byte_for (Record t) n = byte_in t
-byte_for Nothing n = n
+abbrev pub byte_for : Option Track → ℕ → ℕ
+byte_for (Some t) n = byte_in t
+byte_for None n = n
 
 -- a track's type byte is its record's
 pub byte_same : (q : ℕ) (d : Description) → byte_of d.type_byte d.items ≡ byte_in (record_of (record { at = q; track = d }))
@@ -39,7 +37,7 @@ unfolding byte_of record_of track_of
 byte_same q d = rw (value_anywhere 0x52 0 (q + 4) (section_of d.items).list)
 
 -- a listed track is of known type
-pub listed_known : (id q : ℕ) (ds : List Description) (t : Track) → id_of id (listed q ds) ≡ Record t → known_type t.media_type ≡ true
+pub listed_known : (id q : ℕ) (ds : List Description) (t : Track) → id_of id (listed q ds) ≡ Some t → known_type t.media_type ≡ true
 unfolding listed id_of is_listed record_of track_of
 listed_known id q [] t e = absurd (let z : ◌≡◌ {A = ℕ} 0 1 = cc in omega arith)
 listed_known id q (d ∷ ds) t e = go (known_type (d.type_byte - 0x80)) refl e (listed_known id (q + 4 + length d.items) ds t)
@@ -50,27 +48,27 @@ listed_known id q (d ∷ ds) t e = go (known_type (d.type_byte - 0x80)) refl e (
     xs : List Placed
     xs = listed (q + 4 + length d.items) ds
 
-    here : known_type (d.type_byte - 0x80) ≡ true → (b : Bool) → pick b (Record (record_of x)) (id_of id xs) ≡ Record t → (id_of id xs ≡ Record t → known_type t.media_type ≡ true) → known_type t.media_type ≡ true
+    here : known_type (d.type_byte - 0x80) ≡ true → (b : Bool) → pick b (Some (record_of x)) (id_of id xs) ≡ Some t → (id_of id xs ≡ Some t → known_type t.media_type ≡ true) → known_type t.media_type ≡ true
     here k true e on = let r : record_of x ≡ t = cc in rw (← (ap (λ (y : Track). y.media_type) r)) k
     here k false e on = on e
 
-    go : (b : Bool) → known_type (d.type_byte - 0x80) ≡ b → id_of id (pick b (x ∷ xs) xs) ≡ Record t → (id_of id xs ≡ Record t → known_type t.media_type ≡ true) → known_type t.media_type ≡ true
+    go : (b : Bool) → known_type (d.type_byte - 0x80) ≡ b → id_of id (pick b (x ∷ xs) xs) ≡ Some t → (id_of id xs ≡ Some t → known_type t.media_type ≡ true) → known_type t.media_type ≡ true
     go true k e on = here k (eqb (d.id - 0xC0) id) e on
     go false k e on = on e
 
 module _ (id : ℕ) where
   -- behind a track that passed there is none of its ID
-  none_behind : (ids : List ℕ) (p q : ℕ) (d : Description) (ds : List Description) (e : End) → judge_tracks (d.id ∷ ids) p ds e ≡ Accepted → 0xC0 ≤ d.id → d.id - 0xC0 ≡ id → id_of id (listed q ds) ≡ Nothing
+  none_behind : (ids : List ℕ) (p q : ℕ) (d : Description) (ds : List Description) (e : End) → judge_tracks (d.id ∷ ids) p ds e ≡ (Ok tt) → 0xC0 ≤ d.id → d.id - 0xC0 ≡ id → id_of id (listed q ds) ≡ None
   none_behind ids p q d ds e a h i = go (id_of id (listed q ds)) refl
     where
-      go : (x : Kth) → id_of id (listed q ds) ≡ x → x ≡ Nothing
-      go Nothing r = refl
-      go (Record t) r =
+      go : (x : Option Track) → id_of id (listed q ds) ≡ x → x ≡ None
+      go None r = refl
+      go (Some t) r =
           let k = id_numbered id (listed q ds) t r in
           let o = number_own (d.id ∷ ids) p q ds e a k.0 t k.1 in
           absurd ((not_among (t.id + 0xC0) d.id ids o.1).1 (omega (arith, h, i, k.2)))
 
-  pub table_says : id < 64 → (ids : List ℕ) (p q : ℕ) (ds : List Description) (e : End) → judge_tracks ids p ds e ≡ Accepted → (types : List ℕ) → length types ≡ 64
+  pub table_says : id < 64 → (ids : List ℕ) (p q : ℕ) (ds : List Description) (e : End) → judge_tracks ids p ds e ≡ (Ok tt) → (types : List ℕ) → length types ≡ 64
       → get_or (types_of types ds) id 0 ≡ byte_for (id_of id (listed q ds)) (get_or types id 0)
   unfolding types_of listed id_of
   table_says h ids p q [] e a types l = refl
@@ -93,7 +91,7 @@ module _ (id : ℕ) where
       On : Type 0
       On = (ts : List ℕ) → length ts ≡ 64 → get_or (types_of ts ds) id 0 ≡ byte_for (id_of id xs) (get_or ts id 0)
 
-      by : (b : Bool) → eqb j id ≡ b → Passed ids p d ds e → On → get_or (types_of (set types j byte) ds) id 0 ≡ byte_for (pick b (Record (record_of x)) (id_of id xs)) (get_or types id 0)
+      by : (b : Bool) → eqb j id ≡ b → Passed ids p d ds e → On → get_or (types_of (set types j byte) ds) id 0 ≡ byte_for (pick b (Some (record_of x)) (id_of id xs)) (get_or types id 0)
       by true r w on =
           let i = eqb-true j id r in
           let s : get_or (set types j byte) id 0 ≡ byte = rw (← i) (get_or-set_same types j byte 0 (omega (arith, i, l, h))) in

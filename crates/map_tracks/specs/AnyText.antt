@@ -1,8 +1,7 @@
 -- What a 4F says is no matter of a verdict (02, §11: "A malformed 4F gives unknown and no refusal"), beyond the text rule. Proved in proofs/AnyText.antt.
-use Rattle.std.specs.Prelude.{ℕ, ◌-◌, ◌≡◌, true, List, ◌∷◌, ◌++◌, length}
+use Rattle.std.specs.Prelude.{ℕ, ◌-◌, ◌≡◌, true, List, ◌∷◌, ◌++◌, length, Ok}
 use Rattle.text.specs.Text.{text_ok}
 use Rattle.map_items.specs.Items.{Item, items_bytes}
-use Rattle.map_items.specs.declared.Verdict.TheVariants.{Accepted}
 use Rattle.map_aspect.specs.Meaning.{Mpeg}
 use Rattle.map_tracks.specs.Tracks.{track_verdict}
 
@@ -15,4 +14,4 @@ pub record AnyText (type_byte p : ℕ) (before after : List Item) (v w : List �
   -- as long as each other: the verdict on the track is the same, whatever its type and whatever the verdict
   pub same : text_ok v ≡ true → text_ok w ≡ true → length v ≡ length w → track_verdict type_byte (items_bytes (with_text before v after)) p ≡ track_verdict type_byte (items_bytes (with_text before w after)) p
   -- of any length: a track of MPEG video that passes with the one passes with the other
-  pub passes : Mpeg (type_byte - 0x80) → text_ok w ≡ true → track_verdict type_byte (items_bytes (with_text before v after)) p ≡ Accepted → track_verdict type_byte (items_bytes (with_text before w after)) p ≡ Accepted
+  pub passes : Mpeg (type_byte - 0x80) → text_ok w ≡ true → track_verdict type_byte (items_bytes (with_text before v after)) p ≡ (Ok tt) → track_verdict type_byte (items_bytes (with_text before w after)) p ≡ (Ok tt)

@@ -1,9 +1,8 @@
 -- What serves the code and the proofs alone: the set of IDs seen, how many bytes tracks take, and both ways to ask for a track in one.
-use Rattle.std.specs.Prelude.{ℕ, ◌-◌, ◌≤◌, ◌<◌, ◌+◌, ◌/◌, ◌%◌, ◌^◌, ◌≡◌, Bool, true, false, length, eqb, List, [], ◌∷◌}
+use Rattle.std.specs.Prelude.{ℕ, ◌-◌, ◌≤◌, ◌<◌, ◌+◌, ◌/◌, ◌%◌, ◌^◌, ◌≡◌, Bool, true, false, length, eqb, List, [], ◌∷◌, Option, Some, None}
 use Rattle.plate.specs.Choice.{pick}
 use Rattle.map_tracks.specs.declared.Seen.{Seen}
-use Rattle.map_tracks.specs.declared.Kth.{Kth}
-use Rattle.map_tracks.specs.declared.Kth.TheVariants.{Record, Nothing}
+use Rattle.map_answer.specs.declared.Track.{Track}
 use Rattle.map_tracks.specs.Tracks.{Description, Placed, record_of}
 
 -- whether an ID byte, C0 to FF, is in the set: ID k is bit k of the number
@@ -26,6 +25,6 @@ descriptions_size (d ∷ ds) = 4 + length d.items + descriptions_size ds
 unfoldable pub key_of : Bool → ℕ → ℕ → ℕ
 key_of named before id = pick named (id - 0xC0) before
 
-unfoldable pub keyed_of : Bool → ℕ → ℕ → List Placed → Kth
-keyed_of named before wanted [] = Nothing
-keyed_of named before wanted (x ∷ xs) = pick (eqb (key_of named before x.track.id) wanted) (Record (record_of x)) (keyed_of named (before + 1) wanted xs)
+unfoldable pub keyed_of : Bool → ℕ → ℕ → List Placed → Option Track
+keyed_of named before wanted [] = None
+keyed_of named before wanted (x ∷ xs) = pick (eqb (key_of named before x.track.id) wanted) (Some (record_of x)) (keyed_of named (before + 1) wanted xs)

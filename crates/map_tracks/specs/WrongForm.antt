@@ -1,12 +1,12 @@
 -- The wrong auxiliary form in words (RDD 14, 7.1.3; 02, §12): which track has it and where, and the first of some tracks that has. That 29 is given there and nowhere else, and that no other verdict has changed, is proved in proofs/WrongForm.antt.
-use Rattle.std.specs.Prelude.{ℕ, ◌+◌, ◌-◌, ◌≤◌, ◌≡◌, true, false, List, [], ◌∷◌, ◌++◌, ◌⊎◌, length}
+use Rattle.std.specs.Prelude.{ℕ, ◌+◌, ◌-◌, ◌≤◌, ◌≡◌, true, false, List, [], ◌∷◌, ◌++◌, ◌⊎◌, length, Result, Ok, Err, ⊤}
+use Rattle.plate.specs.Plate.{number}
 use Rattle.plate.specs.Choice.{pick}
 use Rattle.plate.specs.declared.Refusal.{Refusal}
 use Rattle.map_items.specs.Items.{Item, section_of, items_size}
 use Rattle.map_items.specs.Judge.{bad, and_then, has, verdict_of}
 use Rattle.map_items.specs.declared.Section.TheVariants as section
-use Rattle.map_items.specs.declared.Verdict.{Verdict}
-use Rattle.map_items.specs.declared.Verdict.TheVariants.{Accepted, Refused}
+use Rattle.plate.specs.declared.Fault.TheVariants as fault
 use Rattle.map_tracks.specs.Tracks.{Description, End, on_bytes, end_verdict, judge_tracks, is_listed}
 
 -- an item among items, and those before and after it
@@ -46,7 +46,7 @@ pub record Otherwise (ids : List ℕ) (p : ℕ) (d : Description) : Type 0 where
   pub type_byte : 0x80 ≤ d.type_byte
   pub id : 0xC0 ≤ d.id
   pub fresh : has d.id ids ≡ false
-  pub items : verdict_of section.Track d.items (p + 4) ≡ Accepted
+  pub items : verdict_of section.Track d.items (p + 4) ≡ (Ok tt)
 
 -- where the track behind it begins
 abbrev pub behind : ℕ → Description → ℕ
@@ -58,18 +58,18 @@ FirstWrong ids p [] q = ⊥
 FirstWrong ids p (d ∷ ds) q = Otherwise ids p d × (WrongAt p d q ⊎ (RightForm p d × FirstWrong (d.id ∷ ids) (behind p d) ds q))
 
 -- the verdict on tracks as 01 had it before 02, §12: no track is asked for its form
-unfoldable pub judge_otherwise : List ℕ → ℕ → List Description → End → Verdict
+unfoldable pub judge_otherwise : List ℕ → ℕ → List Description → End → Result ⊤ Refusal
 judge_otherwise ids p [] e = end_verdict p e
 judge_otherwise ids p (d ∷ ds) e =
     on_bytes d.type_byte d.id p
-    (pick (has d.id ids) (bad 10 p)
+    (pick (has d.id ids) (bad fault.Twice p)
     (and_then (verdict_of section.Track d.items (p + 4)) (judge_otherwise (d.id ∷ ids) (behind p d) ds e)))
 
 -- of tracks from place p on, after tracks of these IDs, and how they end
 pub record Judged29 (ids : List ℕ) (p : ℕ) (ds : List Description) (e : End) : Type 0 where
   -- 29 is given at the first wrong form, and only there
-  pub given : (q : ℕ) → FirstWrong ids p ds q → judge_tracks ids p ds e ≡ bad 29 q
-  pub only : (r : Refusal) → judge_tracks ids p ds e ≡ Refused r → r.number ≡ 29 → FirstWrong ids p ds r.place
+  pub given : (q : ℕ) → FirstWrong ids p ds q → judge_tracks ids p ds e ≡ bad fault.WrongForm q
+  pub only : (r : Refusal) → judge_tracks ids p ds e ≡ Err r → number r ≡ 29 → FirstWrong ids p ds r.place
   -- and without one the verdict is what it was before, whatever it is; tracks have one or have none
   pub otherwise : ((q : ℕ) → FirstWrong ids p ds q → ⊥) → judge_tracks ids p ds e ≡ judge_otherwise ids p ds e
   pub either : ((q : ℕ) × FirstWrong ids p ds q) ⊎ ((q : ℕ) → FirstWrong ids p ds q → ⊥)

@@ -12,7 +12,8 @@ ghost use Rattle.map_tracks.specs.Inside.{holds, Empty, Adds, key_of, keyed_of};
 ghost use Rattle.map_tracks.specs.Tracks.{track_over, track_verdict, tracks_of, tracks_verdict, listed, kth_of, id_of, byte_of, types_of};
 
 use map_answer::Track;
-use map_items::{Part, Section, Verdict};
+use map_items::{Part, Section};
+use plate::{Fault, Refusal};
 
 // The track IDs seen so far: bit k, worth 2^k, is ID k.
 #[derive(Clone, Copy)]
@@ -24,13 +25,6 @@ pub struct Seen {
 #[derive(Clone, Copy)]
 pub struct Types {
     pub media_types: [u8; 64],
-}
-
-// A listed track that was asked for by its number or its ID, if there is one.
-#[derive(Clone, Copy)]
-pub enum Kth {
-    Record(Track),
-    Nothing,
 }
 
 fn nobody() -> Seen
@@ -68,10 +62,7 @@ fn is_listed(type_byte: u8) -> bool
 fn one_if_listed(type_byte: u8) -> usize
     ensures { result ≡ pick (known_type (type_byte - 0x80)) 1 0 }
 {
-    if is_listed(type_byte) {
-        return 1;
-    }
-    0
+    if is_listed(type_byte) { 1 } else { 0 }
 }
 
 // The media type of a track, with the mark where its items say fields per frame 1.
@@ -107,40 +98,33 @@ fn has_null_name(s: &[u8], base: usize) -> bool
 }
 
 // The verdict on the end of a track whose items have passed: 29 for the wrong auxiliary form. The name is sought only where that form is there.
-fn judge_end(type_byte: u8, s: &[u8], base: usize) -> Verdict
+fn judge_end(type_byte: u8, s: &[u8], base: usize) -> Result<(), Refusal>
     requires { (base + length s.now < 2 ^ 64) × ((section_of s.now).end ≡ true) }
     ensures { result ≡ track_over type_byte (section_of s.now).list base }
 {
     let media_type = map_answer::bare(type_byte, 0x80);
-    if media_type::is_known(media_type) {
-        match map_items::found_in_whole(s, base, media_type::wrong_form(media_type)) {
-            Part::At(value, _) => {
-                if has_null_name(s, base) {
-                    return Verdict::Accepted;
-                }
-                return map_items::refused(plate::WRONG_FORM, value - 2); // its tag
-            }
-            Part::Absent => {
-                return Verdict::Accepted;
-            }
-        }
+    if !media_type::is_known(media_type) {
+        return Ok(());
     }
-    Verdict::Accepted
+    match map_items::found_in_whole(s, base, media_type::wrong_form(media_type)) {
+        Some(value) if !has_null_name(s, base) => {
+            map_items::refused(Fault::WrongForm, value.at - 2) // its tag
+        }
+        _ => Ok(()),
+    }
 }
 
 // The verdict on a track's items, from place base of the packet on, and on its end.
-fn judge_track(type_byte: u8, s: &[u8], base: usize) -> Verdict
+fn judge_track(type_byte: u8, s: &[u8], base: usize) -> Result<(), Refusal>
     requires { base + length s.now < 2 ^ 64 }
     ensures { result ≡ track_verdict type_byte s.now base }
 {
-    match map_items::judge(Section::Track, s, base) {
-        Verdict::Refused(r) => Verdict::Refused(r),
-        Verdict::Accepted => judge_end(type_byte, s, base),
-    }
+    map_items::judge(Section::Track, s, base)?;
+    judge_end(type_byte, s, base)
 }
 
 // The first fault of a track section that begins at place base of its packet.
-pub fn judge(s: &[u8], base: usize) -> Verdict
+pub fn judge(s: &[u8], base: usize) -> Result<(), Refusal>
     requires { base + length s.now < 2 ^ 64 }
     ensures { result ≡ tracks_verdict s.now base }
 {
@@ -149,36 +133,30 @@ pub fn judge(s: &[u8], base: usize) -> Verdict
     while at < s.len() {
         let left = s.len() - at;
         if left < 4 {
-            return map_items::refused(plate::OVERHANG, base + at);
+            return map_items::refused(Fault::Overhang, base + at);
         }
         let type_byte = s[at];
         let id = s[at + 1];
         if type_byte < 0x80 {
-            return map_items::refused(plate::TYPE_OR_ID, base + at);
+            return map_items::refused(Fault::TypeOrId, base + at);
         }
         if id < 0xC0 {
-            return map_items::refused(plate::TYPE_OR_ID, base + at);
+            return map_items::refused(Fault::TypeOrId, base + at);
         }
         let n = number::be_at(s, at + 2, 2);
         if left - 4 < n {
-            return map_items::refused(plate::OVERHANG, base + at);
+            return map_items::refused(Fault::Overhang, base + at);
         }
         if has(seen, id) {
-            return map_items::refused(plate::TWICE, base + at);
+            return map_items::refused(Fault::Twice, base + at);
         }
         let a = at + 4;
         let e = a + n; // its length is that of its items alone
-        match judge_track(type_byte, &s[a..e], base + a) {
-            Verdict::Refused(r) => {
-                return Verdict::Refused(r);
-            }
-            Verdict::Accepted => {
-                seen = with(seen, id);
-                at = e;
-            }
-        }
+        judge_track(type_byte, &s[a..e], base + a)?;
+        seen = with(seen, id);
+        at = e;
     }
-    Verdict::Accepted
+    Ok(())
 }
 
 // How many tracks a section lists.
@@ -207,13 +185,14 @@ fn key(named: bool, before: usize, id: u8) -> usize
     ensures { result ≡ key_of named before id }
 {
     if named {
-        return number::wide(map_answer::bare(id, 0xC0));
+        map_answer::bare(id, 0xC0) as usize
+    } else {
+        before
     }
-    before
 }
 
 // The record of the first listed track whose key is wanted, of a section that begins at place base of its packet.
-fn record_by(s: &[u8], base: usize, named: bool, wanted: usize) -> Kth
+fn record_by(s: &[u8], base: usize, named: bool, wanted: usize) -> Option<Track>
     requires { base + length s.now < 2 ^ 64 }
     ensures { result ≡ keyed_of named 0 wanted (listed base (tracks_of s.now).list) }
 {
@@ -222,11 +201,11 @@ fn record_by(s: &[u8], base: usize, named: bool, wanted: usize) -> Kth
     while at < s.len() {
         let left = s.len() - at;
         if left < 4 {
-            return Kth::Nothing;
+            return None;
         }
         let n = number::be_at(s, at + 2, 2);
         if left - 4 < n {
-            return Kth::Nothing;
+            return None;
         }
         let a = at + 4;
         let e = a + n;
@@ -234,17 +213,17 @@ fn record_by(s: &[u8], base: usize, named: bool, wanted: usize) -> Kth
         let id = s[at + 1];
         if is_listed(type_byte) {
             if key(named, before, id) == wanted {
-                return Kth::Record(map_answer::record(type_byte, id, &s[a..e], base + a));
+                return Some(map_answer::record(type_byte, id, &s[a..e], base + a));
             }
             before += 1;
         }
         at = e;
     }
-    Kth::Nothing
+    None
 }
 
 // The record of the k-th listed track, from 0, of a section that begins at place base of its packet.
-pub fn kth_record(s: &[u8], base: usize, k: usize) -> Kth
+pub fn kth_record(s: &[u8], base: usize, k: usize) -> Option<Track>
     requires { base + length s.now < 2 ^ 64 }
     ensures { result ≡ kth_of k (listed base (tracks_of s.now).list) }
 {
@@ -252,7 +231,7 @@ pub fn kth_record(s: &[u8], base: usize, k: usize) -> Kth
 }
 
 // The record of the listed track of an ID, of a section that begins at place base of its packet.
-pub fn record_of_id(s: &[u8], base: usize, id: usize) -> Kth
+pub fn record_of_id(s: &[u8], base: usize, id: usize) -> Option<Track>
     requires { base + length s.now < 2 ^ 64 }
     ensures { result ≡ id_of id (listed base (tracks_of s.now).list) }
 {

@@ -7,6 +7,7 @@ use native.Mathlib.Omega.{arith}
 use borrow.Author.Tests.{eqb-false}
 use lib.ListN.{length}
 use lib.Dec.{eqb}
+use Rattle.std.specs.Prelude.{None}
 use Rattle.map_items.specs.Judge.{has}
 use Rattle.map_given.specs.declared.Slot.{Slot}
 use Rattle.map_given.specs.Given.{slot_at, slots, material_slots, track_at, tracks_from, tracks_given}
@@ -27,7 +28,7 @@ material_most ms =
 
 module _ (text ts : List ℕ) where
   -- a name, a 4D or a 4F, four numbers
-  pub track_most : (at : ℕ) → own_fault (track_at ts at) ≡ 0 → slots_size (track_at ts at).slots ≤ 538
+  pub track_most : (at : ℕ) → own_fault (track_at ts at) ≡ None → slots_size (track_at ts at).slots ≤ 538
   unfolding slots slots_size given is_text is_eight has
   track_most at h =
       omega (arith, go (eqb f.mark 1) refl (not_both (track_at ts at) h), slot_under (slot_at ts (at + 2) 0x4C), slot_under (slot_at ts (at + 2 + 3 + 3) 0x4E), slot_under (slot_at ts (at + 2 + 3 + 3 + 3 + 3) 0x50), slot_under (slot_at ts (at + 2 + 3 + 3 + 3 + 3 + 3) 0x51), slot_under (slot_at ts (at + 2 + 3 + 3 + 3 + 3 + 3 + 3) 0x52))
@@ -43,7 +44,7 @@ module _ (text ts : List ℕ) where
       go false e n = omega (arith, slot_under d, size_absent text f (eqb-false f.mark 1 e))
 
   -- so many tracks, each with its header; and where they have all the bytes that so many can have, each has all
-  pub tracks_most : (n at : ℕ) → tracks_fault text (tracks_from n ts at) ≡ 0
+  pub tracks_most : (n at : ℕ) → tracks_fault text (tracks_from n ts at) ≡ None
       → (tracks_size (tracks_from n ts at) ≤ 542 * length (tracks_from n ts at))
       × Each (λ m. m ≤ 542) (map (parts_of_track text) (tracks_from n ts at))
       × (542 * length (tracks_from n ts at) ≤ tracks_size (tracks_from n ts at) → Each (λ m. m ≡ 542) (map (parts_of_track text) (tracks_from n ts at)))

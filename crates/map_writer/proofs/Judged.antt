@@ -9,6 +9,7 @@ use borrow.Author.Tests.{eq-eqb, ne_eqb, eqb-true, eqb-false}
 use lib.ListN.{length, get_or, take, drop, length-drop}
 use lib.Seq.{length-take-le}
 use lib.Dec.{eqb}
+use Rattle.std.specs.Prelude.{Ok, None}
 use Rattle.plate.specs.Choice.{pick}
 use Rattle.number.specs.Number.{be_bytes}
 use Rattle.number.proofs.Laws.{length-be_bytes}
@@ -18,7 +19,6 @@ use Rattle.map_items.specs.declared.Form.{Form}
 use Rattle.map_items.specs.declared.Form.TheVariants.{Text, Sized}
 use Rattle.map_items.specs.declared.Section.{Section}
 use Rattle.map_items.specs.declared.Section.TheVariants as section
-use Rattle.map_items.specs.declared.Verdict.TheVariants.{Accepted}
 use Rattle.media_type.specs.MediaType.{wrong_form}
 use Rattle.map_items.proofs.Anywhere.{never, verdict_bytes}
 use Rattle.map_items.proofs.Split.{section_bytes_lem}
@@ -45,12 +45,12 @@ Known section [] = Unit {0}
 Known section (s ∷ ss) = (form_of section s.tag ≡ shape_of s.tag) × Known section ss
 
 -- an item of a slot without fault has none
-item_fine : (text : List ℕ) (s : Slot) → s.mark ≡ 1 → slot_fault text s ≡ 0 → fault_of (shape_of s.tag) (slot_value text s) ≡ 0
+item_fine : (text : List ℕ) (s : Slot) → s.mark ≡ 1 → slot_fault text s ≡ None → fault_of (shape_of s.tag) (slot_value text s) ≡ None
 unfolding fault_of slot_value
 item_fine text s e h = go (is_text s.tag) refl (is_eight s.tag) refl
   where
     go : (a : Bool) → is_text s.tag ≡ a → (b : Bool) → is_eight s.tag ≡ b
-        → fault_of (pick a Text (pick b (Sized 8) (Sized 4))) (pick a (take s.second (drop s.first text) ++ (0 ∷ [])) (pick b (take s.second (drop s.first text)) (be_bytes 4 s.first))) ≡ 0
+        → fault_of (pick a Text (pick b (Sized 8) (Sized 4))) (pick a (take s.second (drop s.first text) ++ (0 ∷ [])) (pick b (take s.second (drop s.first text)) (be_bytes 4 s.first))) ≡ None
     go true p b q = rw (reads_text text s e p h)
     go false p true q =
         let f = eight_fits text s p q (present_fits text s e h) in
@@ -142,8 +142,8 @@ module _ (ws : List ℕ) where
           (simp (ne_eqb 0x4D t (λ z. eqb-false t 0x4D k (sym z))) p.0, sym (given_tail n at t 0x4D (eqb-false t 0x4D k)) ∙ p.1)
 
 -- slots of a section without fault are judged good
-judge_slots : (text ws : List ℕ) (section : Section) (n at t p : ℕ) (seen : List ℕ) → Known section (slots n ws at t) → slots_fault text (slots n ws at t) ≡ 0
-    → Below t seen → Free seen (slots n ws at t) → judge_items section seen p (items_of text (slots n ws at t)) ≡ Accepted
+judge_slots : (text ws : List ℕ) (section : Section) (n at t p : ℕ) (seen : List ℕ) → Known section (slots n ws at t) → slots_fault text (slots n ws at t) ≡ None
+    → Below t seen → Free seen (slots n ws at t) → judge_items section seen p (items_of text (slots n ws at t)) ≡ (Ok tt)
 unfolding slots slots_fault items_of judge_items
 judge_slots text ws section zero at t p seen k h b f = refl
 judge_slots text ws section (suc n) at t p seen k h b f =
@@ -157,10 +157,10 @@ judge_slots text ws section (suc n) at t p seen k h b f =
     rest : List Item
     rest = items_of text (slots n ws (at + 3) (t + 1))
 
-    go : (x : Bool) → eqb (get_or ws at 0) 1 ≡ x → slot_fault text (slot_at ws at t) ≡ 0
-        → ((q : ℕ) → Free seen (slots n ws (at + 3) (t + 1)) → judge_items section seen q (items_of text (slots n ws (at + 3) (t + 1))) ≡ Accepted)
-        → ((q : ℕ) → Free (counts_as t ∷ seen) (slots n ws (at + 3) (t + 1)) → judge_items section (counts_as t ∷ seen) q (items_of text (slots n ws (at + 3) (t + 1))) ≡ Accepted)
-        → judge_items section seen p (pick x (record { tag = t; value = slot_value text (slot_at ws at t) } ∷ items_of text (slots n ws (at + 3) (t + 1))) (items_of text (slots n ws (at + 3) (t + 1)))) ≡ Accepted
+    go : (x : Bool) → eqb (get_or ws at 0) 1 ≡ x → slot_fault text (slot_at ws at t) ≡ None
+        → ((q : ℕ) → Free seen (slots n ws (at + 3) (t + 1)) → judge_items section seen q (items_of text (slots n ws (at + 3) (t + 1))) ≡ (Ok tt))
+        → ((q : ℕ) → Free (counts_as t ∷ seen) (slots n ws (at + 3) (t + 1)) → judge_items section (counts_as t ∷ seen) q (items_of text (slots n ws (at + 3) (t + 1))) ≡ (Ok tt))
+        → judge_items section seen p (pick x (record { tag = t; value = slot_value text (slot_at ws at t) } ∷ items_of text (slots n ws (at + 3) (t + 1))) (items_of text (slots n ws (at + 3) (t + 1)))) ≡ (Ok tt)
     go true e z absent present =
         rw (k.0, item_fine text (slot_at ws at t) (eqb-true (get_or ws at 0) 1 e) z, shape_known t, fresh ws n at t seen e b f)
         (present (p + 2 + length (slot_value text (slot_at ws at t))) (free_present ws n at t seen e f))
@@ -188,31 +188,31 @@ no_4_f : (ms : List ℕ) → given 0x4F (material_slots ms) ≡ false
 unfolding slots given
 no_4_f ms = refl
 
-no_track : (ids : List ℕ) (p : ℕ) → judge_tracks ids p [] over ≡ Accepted
+no_track : (ids : List ℕ) (p : ℕ) → judge_tracks ids p [] over ≡ (Ok tt)
 unfolding judge_tracks end_verdict
 no_track ids p = refl
 
 -- a track that passes
 made : (ids : List ℕ) (p : ℕ) (t : TrackParts) (ds : List Description) → 0x80 ≤ t.type_byte → 0xC0 ≤ t.id → has t.id ids ≡ false
-    → judge_items section.Track [] (p + 4) t.items ≡ Accepted → track_over t.type_byte t.items (p + 4) ≡ Accepted
-    → judge_tracks (t.id ∷ ids) (p + 4 + length (described t).items) ds over ≡ Accepted
+    → judge_items section.Track [] (p + 4) t.items ≡ (Ok tt) → track_over t.type_byte t.items (p + 4) ≡ (Ok tt)
+    → judge_tracks (t.id ∷ ids) (p + 4 + length (described t).items) ds over ≡ (Ok tt)
     → Passed ids p (described t) ds over
 unfolding described track_verdict
 made ids p t ds k i f g o r = record { type_byte = k; id = i; fresh = f; items = rw (verdict_bytes section.Track t.items (p + 4), g, section_bytes_lem t.items) o; rest = r }
 
 -- the slots of the material, and of a track
-pub material_good : (text ms : List ℕ) (p : ℕ) → slots_fault text (material_slots ms) ≡ 0 → judge_items section.Material [] p (items_of text (material_slots ms)) ≡ Accepted
+pub material_good : (text ms : List ℕ) (p : ℕ) → slots_fault text (material_slots ms) ≡ None → judge_items section.Material [] p (items_of text (material_slots ms)) ≡ (Ok tt)
 material_good text ms p h =
     judge_slots text ms section.Material 6 0 0x40 p [] (material_known ms) h (none_below 0x40)
     (λ e. absurd (let z : false ≡ true = sym (no_4_f ms) ∙ e in let y : ◌≡◌ {A = ℕ} 0 1 = cc in omega arith))
 
-pub track_good : (text ts : List ℕ) (at p : ℕ) → own_fault (track_at ts at) ≡ 0 → slots_fault text (track_at ts at).slots ≡ 0
-    → judge_items section.Track [] p (items_of text (track_at ts at).slots) ≡ Accepted
+pub track_good : (text ts : List ℕ) (at p : ℕ) → own_fault (track_at ts at) ≡ None → slots_fault text (track_at ts at).slots ≡ None
+    → judge_items section.Track [] p (items_of text (track_at ts at).slots) ≡ (Ok tt)
 track_good text ts at p o h =
     judge_slots text ts section.Track 7 (at + 2) 0x4C p [] (track_known ts at) h (none_below 0x4C) (λ e. (none_below 0 0x4D (omega arith), not_both (track_at ts at) o e))
 
 -- a track that is not given the wrong form passes at its end
-pub form_good : (text ts : List ℕ) (at p : ℕ) → given_wrong (track_at ts at) ≡ false → track_over (0x80 + (track_at ts at).media_type) (items_of text (track_at ts at).slots) p ≡ Accepted
+pub form_good : (text ts : List ℕ) (at p : ℕ) → given_wrong (track_at ts at) ≡ false → track_over (0x80 + (track_at ts at).media_type) (items_of text (track_at ts at).slots) p ≡ (Ok tt)
 unfolding given_wrong
 form_good text ts at p h =
     let media_type = get_or ts at 0 in
@@ -241,8 +241,8 @@ same_more ids marked id f x = go (eqb x id) refl
     go false e = simp (ne_eqb (0xC0 + x) (0xC0 + id) (λ z. eqb-false x id e (omega arith))) (f x)
 
 module _ (text ts : List ℕ) where
-  judge_tracks_lem : (n at p : ℕ) (ids marked : List ℕ) → Same ids marked → tracks_fault text (tracks_from n ts at) ≡ 0 → ids_fault ids (tracks_from n ts at) ≡ 0
-      → any_wrong (tracks_from n ts at) ≡ false → judge_tracks marked p (map described (map (parts_of_track text) (tracks_from n ts at))) over ≡ Accepted
+  judge_tracks_lem : (n at p : ℕ) (ids marked : List ℕ) → Same ids marked → tracks_fault text (tracks_from n ts at) ≡ None → ids_fault ids (tracks_from n ts at) ≡ None
+      → any_wrong (tracks_from n ts at) ≡ false → judge_tracks marked p (map described (map (parts_of_track text) (tracks_from n ts at))) over ≡ (Ok tt)
   unfolding tracks_from ids_fault
   judge_tracks_lem zero at p ids marked f h k w = no_track marked p
   judge_tracks_lem (suc n) at p ids marked f h k w =

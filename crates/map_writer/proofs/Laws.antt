@@ -2,13 +2,14 @@
 use Prim.Native.Nat.{ℕ, ◌+◌, ◌-◌, ◌<◌, ◌≤◌}
 use mathlib.Core.Path.{◌≡◌, refl}
 use mathlib.Core.Bool.{Bool, true, false}
-use mathlib.Core.List.{List}
+use mathlib.Core.List.{List, ◌++◌}
 use native.Mathlib.Omega.{arith}
 use borrow.Author.Tests.{ltb-false}
+use lib.ListN.{length}
 use lib.Dec.{ltb, eqb}
 use Rattle.plate.specs.Choice.{pick}
 use Rattle.map_given.specs.declared.Slot.{Slot}
-use Rattle.map_given.specs.Given.{slot_at, slots, track_at, tracks_from}
+use Rattle.map_given.specs.Given.{slot_at, slots, track_at, tracks_given}
 use Rattle.map_writer.specs.Inside.{slot_size, slots_size, tracks_size}
 use Rattle.map_given.specs.Faults.{is_text, is_eight}
 use Rattle.map_given.proofs.Laws.{slots_more, no_slots, tracks_more, no_tracks}
@@ -34,10 +35,10 @@ module _ (ws : List ℕ) where
   unfolding slots_size
   slots_size_out n at tag h = rw (no_slots n ws at tag h)
 
-  pub tracks_size_turn : (n at : ℕ) → 0 < n → tracks_size (tracks_from n ws at) ≡ 4 + slots_size (track_at ws at).slots + tracks_size (tracks_from (n - 1) ws (at + 23))
-  unfolding tracks_size
-  tracks_size_turn n at h = rw (tracks_more n ws at h)
+pub tracks_size_turn : (x r : List ℕ) → length x ≡ 23 → tracks_size (tracks_given (x ++ r)) ≡ 4 + slots_size (track_at x 0).slots + tracks_size (tracks_given r)
+unfolding tracks_size
+tracks_size_turn x r h = rw (tracks_more x r h)
 
-  pub tracks_size_out : (n at : ℕ) → n ≤ 0 → tracks_size (tracks_from n ws at) ≡ 0
-  unfolding tracks_size
-  tracks_size_out n at h = rw (no_tracks n ws at h)
+pub tracks_size_out : (r : List ℕ) → length r < 23 → tracks_size (tracks_given r) ≡ 0
+unfolding tracks_size
+tracks_size_out r h = rw (no_tracks r h)

@@ -7,6 +7,7 @@ use native.Mathlib.Omega.{arith}
 use borrow.Author.Tests.{lt-ltb, eqb-true}
 use lib.Dec.{ltb, eqb}
 use lib.IntN.{pos, negsuc}
+use Rattle.std.specs.Prelude.{None}
 use Rattle.plate.specs.Choice.{pick}
 use Rattle.map_items.specs.Judge.{has}
 use Rattle.map_answer.specs.Answer.{allowed, nothing, number, meaning_of}
@@ -21,7 +22,7 @@ use Rattle.map_writer.specs.ViewGiven.{code_given, track_view_given, track_views
 use Rattle.map_writer.specs.Meaning.{signed_word, meant, Codes, codes_given}
 
 -- the code of a slot without fault: −1, −2, or a value of Table 6, which is small
-pub code_meant : (text : List ℕ) (s : Slot) → slot_fault text s ≡ 0 → is_text s.tag ≡ false → is_eight s.tag ≡ false → is_code s.tag ≡ true → meaning_of (code_given s) ≡ meant s
+pub code_meant : (text : List ℕ) (s : Slot) → slot_fault text s ≡ None → is_text s.tag ≡ false → is_eight s.tag ≡ false → is_code s.tag ≡ true → meaning_of (code_given s) ≡ meant s
 unfolding code_given meant signed_word meaning_of fits code_fits
 code_meant text s h f g c = go (eqb s.mark 1) refl
   where
@@ -43,7 +44,7 @@ code_meant text s h f g c = go (eqb s.mark 1) refl
 unfoldable pub codes_shown : TrackView → Codes
 codes_shown t = record { rate = meaning_of t.rate; lines = meaning_of t.lines; fields = meaning_of t.fields }
 
-pub codes_told : (text ts : List ℕ) (n at : ℕ) → tracks_fault text (tracks_from n ts at) ≡ 0 → map codes_shown (track_views_given n text ts at) ≡ codes_given n ts at
+pub codes_told : (text ts : List ℕ) (n at : ℕ) → tracks_fault text (tracks_from n ts at) ≡ None → map codes_shown (track_views_given n text ts at) ≡ codes_given n ts at
 unfolding tracks_from track_views_given codes_given codes_shown track_view_given is_text is_eight is_code has
 codes_told text ts zero at h = refl
 codes_told text ts (suc n) at h =

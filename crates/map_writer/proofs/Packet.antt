@@ -1,19 +1,18 @@
 -- The packet put together from its runs, and the outcomes of a call.
-use Prim.Native.Nat.{ℕ, zero, suc, ◌+◌, ◌-◌}
+use Prim.Native.Nat.{ℕ, ◌+◌, ◌-◌}
 use mathlib.Core.Path.{◌≡◌, refl, sym, ◌∙◌, ap}
 use mathlib.Core.Bool.{true, false}
 use mathlib.Core.List.{List, [], ◌∷◌, ◌++◌, append_assoc}
 use native.Mathlib.Omega.{arith}
-use borrow.Author.Tests.{ne_eqb}
 use lib.ListN.{length, replicate}
 use lib.Seq.{sets}
 use lib.Dec.{ltb}
+use Rattle.std.specs.Prelude.{Some, None, Ok}
 use Rattle.number.specs.Number.{be_bytes}
 use Rattle.number.proofs.Laws.{length-be_bytes}
 use Rattle.number.proofs.Stores.{sets_append}
 use Rattle.map_items.specs.Items.{items_bytes}
 use Rattle.packet_writer.specs.Write.{header_of, over, refused, if_room}
-use Rattle.packet_writer.specs.declared.WriteAnswer.TheVariants.{Length}
 use Rattle.map.specs.Encode as encode
 use Rattle.map.specs.Encode.{padding, packet_length, section_bytes, front, encode}
 use Rattle.map.proofs.Encoded.{front_length, packet_length_lem}
@@ -24,6 +23,8 @@ use Rattle.map_writer.specs.Write.{items_of, parts_given, map_packet, map_writte
 use Rattle.map_writer.proofs.Puts.{slots_length}
 use Rattle.map_writer.proofs.PutTracks.{tracks_length_lem}
 use Rattle.map_given.proofs.Clean.{Clean, clean}
+use Rattle.plate.specs.declared.Fault.{Fault}
+use Rattle.plate.specs.declared.Fault.TheVariants as fault
 
 -- what is put in two runs is put in one
 two_runs : (p r l : List ℕ) (i n : ℕ) → i + length p ≡ n → sets l i (p ++ r) ≡ sets (sets l i p) n r
@@ -31,16 +32,6 @@ two_runs p r l i n e = rw (← e) (sym (sets_append p l i r))
 
 abbrev zeros : List ℕ
 zeros = 0 ∷ 0 ∷ 0 ∷ 0 ∷ []
-
--- the bytes of 0 are zeros
-one_more : (n a : ℕ) → replicate n a ++ (a ∷ []) ≡ replicate (suc n) a
-one_more zero a = refl
-one_more (suc n) a = ap (λ (l : List ℕ). a ∷ l) (one_more n a)
-
-pub zero_bytes : (n : ℕ) → be_bytes n 0 ≡ replicate n 0
-unfolding be_bytes
-zero_bytes zero = refl
-zero_bytes (suc n) = rw (zero_bytes n) (one_more n 0)
 
 pub first_run : (l : List ℕ) (len : ℕ) → sets (sets l 0 (header_of 0xBC len)) 16 (0xE0 ∷ 0xFF ∷ []) ≡ sets l 0 (front len zeros 0xFF)
 unfolding header_of front be_bytes
@@ -112,15 +103,15 @@ module _ (text ms ts : List ℕ) where
 
 -- the outcomes of a call
 module _ (out : List ℕ) (at : ℕ) (text ms ts : List ℕ) where
-  pub faulty : (n : ℕ) → n ≡ fault_of text ms ts → (n ≡ 0 → ⊥) → (map_written_answer out at text ms ts ≡ refused n) × (map_written_in out at text ms ts ≡ out)
+  pub faulty : (f : Fault) → fault_of text ms ts ≡ Some f → (map_written_answer out at text ms ts ≡ refused f) × (map_written_in out at text ms ts ≡ out)
   unfolding map_written_answer map_written_in
-  faulty n e h = rw (← e) (simp (ne_eqb n 0 h) (refl, refl))
+  faulty f e = rw e (refl, refl)
 
-  pub wrong_formed : fault_of text ms ts ≡ 0 → any_wrong (tracks_given ts) ≡ true → (map_written_answer out at text ms ts ≡ refused 29) × (map_written_in out at text ms ts ≡ out)
+  pub wrong_formed : fault_of text ms ts ≡ None → any_wrong (tracks_given ts) ≡ true → (map_written_answer out at text ms ts ≡ refused fault.WrongForm) × (map_written_in out at text ms ts ≡ out)
   unfolding map_written_answer map_written_in
   wrong_formed f w = simp (f, w) (refl, refl)
 
-  module _ (f : fault_of text ms ts ≡ 0) (w : any_wrong (tracks_given ts) ≡ false) where
+  module _ (f : fault_of text ms ts ≡ None) (w : any_wrong (tracks_given ts) ≡ false) where
     abbrev used : ℕ
     used = 22 + slots_size (material_slots ms) + tracks_size (tracks_given ts)
 
@@ -131,10 +122,10 @@ module _ (out : List ℕ) (at : ℕ) (text ms ts : List ℕ) where
     unfolding map_written_answer
     answer_is = simp (f, w, packet_size text ms ts (clean text ms ts f))
 
-    pub no_room : ltb (length out - at) len ≡ true → (map_written_answer out at text ms ts ≡ refused 13) × (map_written_in out at text ms ts ≡ out)
+    pub no_room : ltb (length out - at) len ≡ true → (map_written_answer out at text ms ts ≡ refused fault.Room) × (map_written_in out at text ms ts ≡ out)
     unfolding map_written_in
     no_room e = simp (answer_is, e) (refl, refl)
 
-    pub wrote : ltb (length out - at) len ≡ false → (map_written_answer out at text ms ts ≡ Length len) × (map_written_in out at text ms ts ≡ over out at (map_packet text ms ts))
+    pub wrote : ltb (length out - at) len ≡ false → (map_written_answer out at text ms ts ≡ Ok len) × (map_written_in out at text ms ts ≡ over out at (map_packet text ms ts))
     unfolding map_written_in
     wrote e = simp (answer_is, e) (refl, refl)

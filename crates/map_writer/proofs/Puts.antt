@@ -1,11 +1,13 @@
 -- How the writer puts bytes together: run after run.
 use Prim.Native.Nat.{ℕ, ◌+◌, ◌-◌, ◌*◌, ◌<◌, ◌≤◌}
-use mathlib.Core.Path.{◌≡◌, refl, ◌∙◌, ap}
+use mathlib.Core.Path.{◌≡◌, refl, sym, ◌∙◌, ap}
 use mathlib.Core.List.{List, [], ◌∷◌, ◌++◌, append_assoc, append-nil}
 use native.Mathlib.Omega.{arith}
-use native.Mathlib.Numerals.{add-one}
-use lib.ListN.{length, get_or, set, take, drop, length-drop, length-append}
-use lib.Seq.{sets, take-suc, length-take-le, get_or-drop}
+use native.Mathlib.Nat.{add-sub_cancel_left}
+use lib.ListN.{replicate, length-replicate, length, set, take, drop, length-drop, length-append}
+use lib.Seq.{sets, sets-eq, drop-drop, length-take-le}
+use borrow.Rule.Slice.PartMut.{put_mid}
+use Rattle.std.specs.Prelude.{None}
 use Rattle.number.proofs.Stores.{sets_append}
 use mathlib.Core.Bool.{Bool, true, false}
 use lib.Dec.{eqb}
@@ -28,18 +30,24 @@ use Rattle.map_given.proofs.Clean.{present_fits, eight_fits}
 byte_more : (a l : List ℕ) (i n b : ℕ) → length a ≡ n → set (sets l i a) (i + n) b ≡ sets l i (a ++ (b ∷ []))
 byte_more a l i n b e = rw (← e) (sets_append a l i (b ∷ []))
 
-pub copy_more : (l text : List ℕ) (pos from i b : ℕ) → from + i < length text → b ≡ get_or text (from + i) 0
-    → set (sets l pos (take i (drop from text))) (pos + i) b ≡ sets l pos (take (i + 1) (drop from text))
-copy_more l text pos from i b h e =
-    let k : i < length (drop from text) = simp length-drop (omega arith) in
-    rw (add-one, take-suc (drop from text) i 0 k, get_or-drop, ← e) (byte_more (take i (drop from text)) l pos i b (length-take-le i (drop from text) (omega arith)))
+-- a part of some bytes has its length
+pub part_long : (text : List ℕ) (from n : ℕ) → from + n ≤ length text → length (take n (drop from text)) ≡ n
+part_long text from n h = length-take-le n (drop from text) (simp length-drop (omega arith))
 
--- a text: its tag and its length byte, its bytes, and its 00 last
-pub text_run : (l v : List ℕ) (pos tag n m : ℕ) → length v ≡ m → set (sets (sets l pos (tag ∷ n ∷ [])) (pos + 2) v) (pos + 2 + m) 0 ≡ sets l pos (tag ∷ n ∷ (v ++ (0 ∷ [])))
+-- a part that comes back as these bytes: the whole with them at the place
+pub part_set : (l vs : List ℕ) (at k : ℕ) → k ≡ length vs → at + k ≤ length l → put_mid at k l vs ≡ sets l at vs
+part_set l vs at k e h = rw (e, sets-eq vs l at (omega arith)) (simp (drop-drop, append_assoc))
+
+-- a part that comes back filled with zeros
+pub filled : (l now : List ℕ) (at k : ℕ) → at + k ≤ length l → now ≡ replicate (length (take (at + k - at) (drop at l))) 0 → put_mid at (at + k - at) l now ≡ sets l at (replicate k 0)
+filled l now at k h e = rw (e, add-sub_cancel_left, part_long l at k h) (part_set l (replicate k 0) at k (sym (length-replicate k 0)) h)
+
+-- a text: its tag, its length byte and its bytes, and its 00 last
+pub text_run : (l v : List ℕ) (pos tag n m : ℕ) → length v ≡ m → set (sets l pos (tag ∷ n ∷ v)) (pos + 2 + m) 0 ≡ sets l pos (tag ∷ n ∷ (v ++ (0 ∷ [])))
 text_run l v pos tag n m e =
     let a : pos + 2 + m ≡ pos + (2 + m) = omega arith in
     let b : length (tag ∷ n ∷ v) ≡ 2 + m = omega arith in
-    rw (sets_append (tag ∷ n ∷ []) l pos v, a) (byte_more (tag ∷ n ∷ v) l pos (2 + m) 0 b)
+    rw a (byte_more (tag ∷ n ∷ v) l pos (2 + m) 0 b)
 
 module _ (text : List ℕ) (s : Slot) where
   item_bytes : (v : List ℕ) → s.mark ≡ 1 → slot_value text s ≡ v → items_bytes (items_of text (s ∷ [])) ≡ s.tag ∷ length v ∷ v
@@ -97,7 +105,7 @@ unfolding items_of items_bytes
 no_items text = refl
 
 -- the bytes of a slot's item are as many as its size, where it has no fault
-pub slot_length : (text : List ℕ) (s : Slot) → slot_fault text s ≡ 0 → length (items_bytes (items_of text (s ∷ []))) ≡ slot_size s
+pub slot_length : (text : List ℕ) (s : Slot) → slot_fault text s ≡ None → length (items_bytes (items_of text (s ∷ []))) ≡ slot_size s
 slot_length text s h = go (eqb s.mark 1) refl (is_text s.tag) refl (is_eight s.tag) refl
   where
     go : (a : Bool) → eqb s.mark 1 ≡ a → (b : Bool) → is_text s.tag ≡ b → (d : Bool) → is_eight s.tag ≡ d → length (items_bytes (items_of text (s ∷ []))) ≡ slot_size s
@@ -131,7 +139,7 @@ items_cons text s ss = go (eqb s.mark 1)
     go false = refl
 
 -- the items of slots without fault take what their sizes say
-pub slots_length : (text : List ℕ) (ss : List Slot) → slots_fault text ss ≡ 0 → length (items_bytes (items_of text ss)) ≡ slots_size ss
+pub slots_length : (text : List ℕ) (ss : List Slot) → slots_fault text ss ≡ None → length (items_bytes (items_of text ss)) ≡ slots_size ss
 unfolding slots_fault slots_size
 slots_length text [] h = no_items text
 slots_length text (s ∷ ss) h =
@@ -144,7 +152,7 @@ pub record SlotsLeft (whole text ws : List ℕ) (size : ℕ) (out : List ℕ) (t
   pub words : place + 3 * left ≤ length ws
   pub tags : next + left < 256
   pub room : to + slots_size (slots left ws place next) ≤ size
-  pub clean : slots_fault text (slots left ws place next) ≡ 0
+  pub clean : slots_fault text (slots left ws place next) ≡ None
   pub long : length out ≡ size
   pub same : sets out to (items_bytes (items_of text (slots left ws place next))) ≡ whole
 
@@ -155,7 +163,7 @@ module _ (whole text ws : List ℕ) (size : ℕ) (out : List ℕ) (to place next
   abbrev ss : List Slot
   ss = slots (left - 1) ws (place + 3) (next + 1)
 
-  pub slot_clean : (slot_fault text s ≡ 0) × (slots_fault text ss ≡ 0)
+  pub slot_clean : (slot_fault text s ≡ None) × (slots_fault text ss ≡ None)
   unfolding slots_fault
   slot_clean = none_graver (slot_fault text s) (slots_fault text ss) (rw (slots_more left ws place next h) at l.clean)
 

@@ -9,19 +9,18 @@ use lib.Seq.{take-append_seam, drop-append_seam}
 use contract.Lifetimes.{Lfts}
 use borrow.Fn.Kinds.{ended_of, Dens}
 use denote.Triple.Clauses.{AtExit}
+use Rattle.std.specs.Prelude.{Result, Ok, Err}
 use Rattle.plate.specs.Plate.{refusal}
 use Rattle.packet.specs.Packet.{packet_at}
 use Rattle.map_answer.specs.declared.Track.{Track}
 use Rattle.map_tracks.specs.Tracks.{Placed, record_of, kth_of}
 use Rattle.map.specs.Map.{listed_in, material_says, map_at, track_at, on_kth}
-use Rattle.map.specs.declared.MapAnswer.{MapAnswer}
-use Rattle.map.specs.declared.MapAnswer.TheVariants as answer
 use Rattle.map.specs.declared.MapSays.{MapSays}
-use Rattle.map.specs.declared.TrackAnswer.{TrackAnswer}
+use Rattle.plate.specs.declared.Refusal.{Refusal}
+use Rattle.plate.specs.declared.Fault.TheVariants as fault
 use Rattle.map.specs.View.{MapView, TrackView, track_view_in, view_in}
 use Rattle.map_records.specs.Fill.{records_at, answer_for, lent_after, Filled}
 use Rattle.map_records.proofs.Kept.{enough, too_few}
-use Rattle.packet_writer.specs.declared.WriteAnswer.TheVariants.{Length}
 use Rattle.map_given.proofs.Clean.{Clean, clean}
 use Rattle.map_writer.specs.ViewGiven.{view_given}
 use Rattle.map_writer.specs.Meaning.{Codes, codes_given, codes_read}
@@ -34,10 +33,10 @@ use Rattle.map_writer.proofs.write.Kinds as kinds
 use Rattle.map_writer.proofs.write.Reads as reads
 
 -- what the contracts allow is what the definitions give
-read_gives : (now : List ℕ) (at : ℕ) (x : MapAnswer) → ReadGives now at x → x ≡ map_at now at
+read_gives : (now : List ℕ) (at : ℕ) (x : Result MapSays Refusal) → ReadGives now at x → x ≡ map_at now at
 read_gives now at x g = rw (← g.bytes, ← g.place) g.post
 
-track_gives : (now : List ℕ) (at k : ℕ) (y : TrackAnswer) → TrackGives now at k y → y ≡ track_at now at k
+track_gives : (now : List ℕ) (at k : ℕ) (y : Result Track Refusal) → TrackGives now at k y → y ≡ track_at now at k
 track_gives now at k y g = rw (← g.bytes, ← g.place, ← g.number) g.post
 
 -- the k-th record is the k-th of what the records are read as
@@ -71,7 +70,7 @@ module _ (out : List ℕ) (at : ℕ) (text ms ts : List ℕ) (n : ℕ) (now : Li
   unfolding view_in view_given
   count = ap (λ (s : MapView). s.count) b.view
 
-  says : Says p (view_given text ms ts) (answer.Says m)
+  says : Says p (view_given text ms ts) (Ok m)
   unfolding view_in
   says = (ap (λ (s : MapView). s.count) b.view, ap (λ (s : MapView). s.material) b.view)
 
@@ -91,20 +90,20 @@ module _ (out : List ℕ) (at : ℕ) (text ms ts : List ℕ) (n : ℕ) (now : Li
   many : length rs ≡ length ts / 23
   many = length-map (listed_in p) record_of ∙ count
 
-  filled : (ys zs : List Track) (r : MapAnswer) → Filled ys now at r zs → length ts / 23 ≤ length ys
+  filled : (ys zs : List Track) (r : Result MapSays Refusal) → Filled ys now at r zs → length ts / 23 ≤ length ys
       → Says p (view_given text ms ts) r × (map (track_view_in p) (take (length ts / 23) zs) ≡ (view_given text ms ts).tracks)
       × (map codes_read (take (length ts / 23) zs) ≡ codes_given (length ts / 23) ts 0)
       × (drop (length ts / 23) zs ≡ drop (length ts / 23) ys)
   unfolding Filled lent_after
   filled ys zs r f h =
-      let a : answer_for now at (length ys) ≡ answer.Says m = enough now at (length ys) m b.read (omega (arith, count)) in
-      let e : r ≡ answer.Says m = f.0 ∙ a in
+      let a : answer_for now at (length ys) ≡ Ok m = enough now at (length ys) m b.read (omega (arith, count)) in
+      let e : r ≡ Ok m = f.0 ∙ a in
       let z : zs ≡ rs ++ drop (length rs) ys = f.1 ∙ rw (a, records) in
       let t : take (length ts / 23) zs ≡ rs = rw (z, ← many) (take-append_seam rs (drop (length rs) ys)) in
       let d : drop (length ts / 23) zs ≡ drop (length ts / 23) ys = rw (z, ← many) (drop-append_seam rs (drop (length rs) ys)) in
       rw (e, t) (says, tracks, codes, d)
 
-  fewer : (ys zs : List Track) (r : MapAnswer) → Filled ys now at r zs → length ys < length ts / 23 → (r ≡ answer.Refused (refusal 13 0)) × (zs ≡ ys)
+  fewer : (ys zs : List Track) (r : Result MapSays Refusal) → Filled ys now at r zs → length ys < length ts / 23 → (r ≡ Err (refusal fault.Room 0)) × (zs ≡ ys)
   unfolding Filled lent_after
   fewer ys zs r f h =
       let a = too_few now at (length ys) m b.read (omega (arith, count)) in
@@ -122,8 +121,8 @@ module _ (out : List ℕ) (at : ℕ) (text ms ts : List ℕ) (n : ℕ) (now : Li
 
 -- after a call of `write` that answered with a length
 pub write_then_read : (κs : Lfts 4) (a : Dens κs kinds.ps) (n : ℕ) (s : AtExit (ended_of 4 kinds.ps kinds.r) κs)
-    → reads.Post κs a (Length n) s → Readers s.0.now a.1.0 n a.1.1.0.now a.1.1.1.0.now a.1.1.1.1.0.now
+    → reads.Post κs a (Ok n) s → Readers s.0.now a.1.0 n a.1.1.0.now a.1.1.1.0.now a.1.1.1.1.0.now
 write_then_read κs a n s q =
     let out = a.0.now in let at = a.1.0 in let text = a.1.1.0.now in let ms = a.1.1.1.0.now in let ts = a.1.1.1.1.0.now in
-    let e : map_written_answer out at text ms ts ≡ Length n = sym q.0 in
+    let e : map_written_answer out at text ms ts ≡ Ok n = sym q.0 in
     rw q.1 (readers out at text ms ts n (map_written_in out at text ms ts) (round_trip out at text ms ts n e) (clean text ms ts (answered out at text ms ts n e).none))

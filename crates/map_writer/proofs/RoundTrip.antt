@@ -4,14 +4,16 @@ use mathlib.Core.Path.{◌≡◌, refl, sym, ◌∙◌}
 use mathlib.Core.Bool.{Bool, true, false}
 use mathlib.Core.List.{List, map, append_assoc}
 use native.Mathlib.Omega.{arith}
-use borrow.Author.Tests.{eqb-true, ltb-false, le-ltb}
+use borrow.Author.Tests.{ltb-false, le-ltb}
 use lib.ListN.{length, take, drop}
 use lib.Seq.{length-take-le}
-use lib.Dec.{eqb, ltb}
+use lib.Dec.{ltb}
+use Rattle.std.specs.Prelude.{Option, Some, None, Ok, Err}
 use Rattle.plate.specs.Choice.{pick}
 use Rattle.plate.specs.declared.Refusal.{Refusal}
+use Rattle.plate.specs.declared.Fault.{Fault}
+use Rattle.plate.specs.declared.Fault.TheVariants as fault
 use Rattle.packet.specs.Packet.{header_at}
-use Rattle.packet.specs.declared.PacketAnswer.TheVariants.{Whole}
 use Rattle.packet.proofs.Laws.{whole}
 use Rattle.map_tracks.proofs.Split as split
 use Rattle.map.specs.Encode.{described, encode}
@@ -20,10 +22,9 @@ use Rattle.map.proofs.Parts.{good_encoded}
 use Rattle.map.proofs.ViewOfParts.{view_encoded}
 use Rattle.map.proofs.Within.{read_there, track_there}
 use Rattle.packet_writer.specs.Write.{refused}
-use Rattle.packet_writer.specs.declared.WriteAnswer.TheVariants.{Length, Refused}
 use Rattle.packet_writer.proofs.Laws.{framed, header_before, header_stands}
 use Rattle.map_given.specs.Given.{tracks_given}
-use Rattle.map_writer.specs.Write.{parts_given, parts_of_track, map_packet, map_written_answer, map_written_in}
+use Rattle.map_writer.specs.Write.{parts_given, parts_of_track, map_packet, or_refused, map_written_answer, map_written_in}
 use Rattle.map_writer.specs.Inside.{tracks_bytes}
 use Rattle.map_writer.specs.ReadBack.{ReadBack}
 use Rattle.map_given.specs.Faults.{fault_of, any_wrong}
@@ -39,29 +40,29 @@ use Rattle.map_writer.proofs.write.Kinds as kinds
 use Rattle.map_writer.proofs.write.Reads as reads
 
 -- a packet has its header
-length_of_header : (m : List ℕ) → header_at m 0 ≡ Whole (record { packet_type = 0xBC; len = length m }) → 16 ≤ length m
+length_of_header : (m : List ℕ) → header_at m 0 ≡ Ok (record { packet_type = 0xBC; len = length m }) → 16 ≤ length m
 length_of_header m h = (whole m 0 (record { packet_type = 0xBC; len = length m }) h).least
 
 -- a length was answered: there was no fault and no wrong form, and there was room
 pub record Answered (out : List ℕ) (at : ℕ) (text ms ts : List ℕ) (n : ℕ) : Type 0 where
-  pub none : fault_of text ms ts ≡ 0
+  pub none : fault_of text ms ts ≡ None
   pub form : any_wrong (tracks_given ts) ≡ false
   pub lens : n ≡ length (map_packet text ms ts)
   pub room : length (map_packet text ms ts) ≤ length out - at
 
 module _ (out : List ℕ) (at : ℕ) (text ms ts : List ℕ) (n : ℕ) where
-  pub answered : map_written_answer out at text ms ts ≡ Length n → Answered out at text ms ts n
+  pub answered : map_written_answer out at text ms ts ≡ Ok n → Answered out at text ms ts n
   unfolding map_written_answer
-  answered = go (eqb (fault_of text ms ts) 0) refl (any_wrong (tracks_given ts)) refl (ltb (length out - at) (length (map_packet text ms ts))) refl
+  answered = go (fault_of text ms ts) refl (any_wrong (tracks_given ts)) refl (ltb (length out - at) (length (map_packet text ms ts))) refl
     where
-      go : (a : Bool) → eqb (fault_of text ms ts) 0 ≡ a → (b : Bool) → any_wrong (tracks_given ts) ≡ b → (d : Bool) → ltb (length out - at) (length (map_packet text ms ts)) ≡ d
-          → pick a (pick b (refused 29) (pick d (refused 13) (Length (length (map_packet text ms ts))))) (refused (fault_of text ms ts)) ≡ Length n → Answered out at text ms ts n
-      go true p false w false r e =
+      go : (o : Option Fault) → fault_of text ms ts ≡ o → (b : Bool) → any_wrong (tracks_given ts) ≡ b → (d : Bool) → ltb (length out - at) (length (map_packet text ms ts)) ≡ d
+          → or_refused o (pick b (refused fault.WrongForm) (pick d (refused fault.Room) (Ok (length (map_packet text ms ts))))) ≡ Ok n → Answered out at text ms ts n
+      go None p false w false r e =
           let l : n ≡ length (map_packet text ms ts) = cc in
-          record { none = eqb-true (fault_of text ms ts) 0 p; form = w; lens = l; room = omega (arith, ltb-false) }
-      go true p false w true r e = absurd (let z : ◌≡◌ {A = ℕ} 0 1 = cc in omega arith)
-      go true p true w d r e = absurd (let z : ◌≡◌ {A = ℕ} 0 1 = cc in omega arith)
-      go false p b w d r e = absurd (let z : ◌≡◌ {A = ℕ} 0 1 = cc in omega arith)
+          record { none = p; form = w; lens = l; room = omega (arith, ltb-false) }
+      go None p false w true r e = absurd (let z : ◌≡◌ {A = ℕ} 0 1 = cc in omega arith)
+      go None p true w d r e = absurd (let z : ◌≡◌ {A = ℕ} 0 1 = cc in omega arith)
+      go (Some f) p b w d r e = absurd (let z : ◌≡◌ {A = ℕ} 0 1 = cc in omega arith)
 
   -- the packet's parts fit their length words
   pub fit : Clean text ms ts → Fit (parts_given text ms ts)
@@ -78,11 +79,11 @@ module _ (out : List ℕ) (at : ℕ) (text ms ts : List ℕ) (n : ℕ) where
       }
 
   -- the other way: an input without fault and without a wrong form is written wherever there is room for it
-  pub accepted : fault_of text ms ts ≡ 0 → any_wrong (tracks_given ts) ≡ false → at + length (map_packet text ms ts) ≤ length out → map_written_answer out at text ms ts ≡ Length (length (map_packet text ms ts))
+  pub accepted : fault_of text ms ts ≡ None → any_wrong (tracks_given ts) ≡ false → at + length (map_packet text ms ts) ≤ length out → map_written_answer out at text ms ts ≡ Ok (length (map_packet text ms ts))
   unfolding map_written_answer
   accepted e w h = simp (e, w, le-ltb (length out - at) (length (map_packet text ms ts)) (omega arith))
 
-  pub round_trip : map_written_answer out at text ms ts ≡ Length n → ReadBack out at text ms ts n (map_written_in out at text ms ts)
+  pub round_trip : map_written_answer out at text ms ts ≡ Ok n → ReadBack out at text ms ts n (map_written_in out at text ms ts)
   unfolding map_written_in map_packet
   round_trip e =
       let a = answered e in
@@ -113,9 +114,9 @@ module _ (out : List ℕ) (at : ℕ) (text ms ts : List ℕ) (n : ℕ) where
 
 -- what the contract says of a length answered: the buffer at exit reads back as what was given; and of a refusal: the buffer is as it was
 pub write_reads_back : (κs : Lfts 4) (a : Dens κs kinds.ps) (n : ℕ) (s : AtExit (ended_of 4 kinds.ps kinds.r) κs)
-    → reads.Post κs a (Length n) s → ReadBack a.0.now a.1.0 a.1.1.0.now a.1.1.1.0.now a.1.1.1.1.0.now n s.0.now
+    → reads.Post κs a (Ok n) s → ReadBack a.0.now a.1.0 a.1.1.0.now a.1.1.1.0.now a.1.1.1.1.0.now n s.0.now
 write_reads_back κs a n s p = rw p.1 (round_trip a.0.now a.1.0 a.1.1.0.now a.1.1.1.0.now a.1.1.1.1.0.now n (sym p.0))
 
-pub refused_stays : (κs : Lfts 4) (a : Dens κs kinds.ps) (r : Refusal) (s : AtExit (ended_of 4 kinds.ps kinds.r) κs) → reads.Post κs a (Refused r) s → s.0.now ≡ a.0.now
+pub refused_stays : (κs : Lfts 4) (a : Dens κs kinds.ps) (r : Refusal) (s : AtExit (ended_of 4 kinds.ps kinds.r) κs) → reads.Post κs a (Err r) s → s.0.now ≡ a.0.now
 unfolding map_written_in
 refused_stays κs a r s p = p.1 ∙ rw (← p.0)

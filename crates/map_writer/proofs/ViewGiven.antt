@@ -9,6 +9,7 @@ use borrow.Author.Tests.{eq-eqb, ne_eqb, eqb-true, leb-true}
 use lib.ListN.{length, get_or, take, drop, length-append, length-drop}
 use lib.Seq.{length-take-le}
 use lib.Dec.{eqb}
+use Rattle.std.specs.Prelude.{Some, None}
 use Rattle.plate.specs.Choice.{pick}
 use Rattle.number.specs.Number.{be, be_bytes}
 use Rattle.number.proofs.Laws.{be_back, length-be_bytes}
@@ -17,7 +18,6 @@ use Rattle.map_items.specs.Judge.{has}
 use Rattle.map_items.proofs.Anywhere.{never}
 use Rattle.map_answer.specs.Answer as answer
 use Rattle.map_answer.specs.Answer.{allowed, code_of, is_null}
-use Rattle.map_answer.specs.declared.Value.TheVariants as value
 use Rattle.map_answer.specs.declared.Code.TheVariants as code
 use Rattle.map_tracks.specs.Tracks.{is_listed}
 use Rattle.map.specs.Encode.{described}
@@ -105,7 +105,7 @@ module _ (text ws : List ℕ) where
       go false m = m q
 
 -- a number of 32 bits reads back
-number_read : (v : ℕ) → v < 256 ^ 4 → answer.value_of (found 0 (be_bytes 4 v)) ≡ value.Is v
+number_read : (v : ℕ) → v < 256 ^ 4 → answer.value_of (found 0 (be_bytes 4 v)) ≡ Some v
 unfolding answer.value_of
 number_read v h =
     let b : be (be_bytes 4 v) 0 4 ≡ v = rw append-nil at (be_back [] 4 v [] h) in
@@ -119,11 +119,11 @@ text_long text s h =
     length-append v (0 ∷ []) ∙ omega arith
 
 -- −1 and −2 in 64 bits are −1 and −2 in 32
-minus_one : answer.value_of (found 0 (be_bytes 4 0xFFFFFFFFFFFFFFFF)) ≡ value.Is 0xFFFFFFFF
+minus_one : answer.value_of (found 0 (be_bytes 4 0xFFFFFFFFFFFFFFFF)) ≡ Some 0xFFFFFFFF
 unfolding answer.value_of be be_bytes
 minus_one = refl
 
-minus_two : answer.value_of (found 0 (be_bytes 4 0xFFFFFFFFFFFFFFFE)) ≡ value.Is 0xFFFFFFFE
+minus_two : answer.value_of (found 0 (be_bytes 4 0xFFFFFFFFFFFFFFFE)) ≡ Some 0xFFFFFFFE
 unfolding answer.value_of be be_bytes
 minus_two = refl
 
@@ -132,7 +132,7 @@ one_is_null zero = refl
 one_is_null (suc n) = ne_eqb (suc n + 1) 1 (λ z. omega arith) ∙ sym (ne_eqb (suc n) 0 (λ z. omega arith))
 
 module _ (text : List ℕ) (s : Slot) where
-  module _ (h : slot_fault text s ≡ 0) where
+  module _ (h : slot_fault text s ≡ None) where
     -- a text has its 00, and 4D its eight bytes
     pub text_told : is_text s.tag ≡ true → held_of (slot_found text s) ≡ text_given text s
     unfolding held_of slot_found text_given slot_value
@@ -163,7 +163,7 @@ module _ (text : List ℕ) (s : Slot) where
       where
         go : (b : Bool) → eqb s.mark 1 ≡ b
             → answer.value_of (pick b (found 0 (pick (is_text s.tag) (take s.second (drop s.first text) ++ (0 ∷ [])) (pick (is_eight s.tag) (take s.second (drop s.first text)) (be_bytes 4 s.first)))) missing)
-            ≡ pick b (value.Is s.first) value.Absent
+            ≡ pick b (Some s.first) None
         go true e =
             let a = rw (f, g, c) at (present_fits text s (eqb-true s.mark 1 e) h) in
             rw (f, g) (number_read s.first (let l = leb-true s.first 0xFFFFFFFF a in omega arith))
@@ -205,7 +205,7 @@ module _ (text : List ℕ) (s : Slot) where
         go false e = refl
 
 -- the material: each slot by its tag
-module _ (text ms : List ℕ) (h : slots_fault text (material_slots ms) ≡ 0) where
+module _ (text ms : List ℕ) (h : slots_fault text (material_slots ms) ≡ None) where
   material_held : (k tag place : ℕ) → k < 6 → tag ≡ 0x40 + k → place ≡ 3 * k
       → held_of (find tag 0 (items_of text (material_slots ms))) ≡ held_of (slot_found text (slot_at ms place tag))
   material_held k tag place l e f = held_slot text ms k 6 0 0x40 tag place 0 l e (omega arith)
@@ -229,12 +229,12 @@ module _ (text ms : List ℕ) (h : slots_fault text (material_slots ms) ≡ 0) w
       )
 
 -- a track: each slot by its tag
-module _ (text ts : List ℕ) (at : ℕ) (own : own_fault (track_at ts at) ≡ 0) (h : slots_fault text (track_at ts at).slots ≡ 0) where
+module _ (text ts : List ℕ) (at : ℕ) (own : own_fault (track_at ts at) ≡ None) (h : slots_fault text (track_at ts at).slots ≡ None) where
   track_held : (k tag place : ℕ) → k < 7 → tag ≡ 0x4C + k → place ≡ at + 2 + 3 * k
       → held_of (find tag 0 (items_of text (track_at ts at).slots)) ≡ held_of (slot_found text (slot_at ts place tag))
   track_held k tag place l e f = held_slot text ts k 7 (at + 2) 0x4C tag place 0 l e f
 
-  track_fault : (k tag place : ℕ) → k < 7 → tag ≡ 0x4C + k → place ≡ at + 2 + 3 * k → slot_fault text (slot_at ts place tag) ≡ 0
+  track_fault : (k tag place : ℕ) → k < 7 → tag ≡ 0x4C + k → place ≡ at + 2 + 3 * k → slot_fault text (slot_at ts place tag) ≡ None
   track_fault k tag place l e f = slot_of text ts k 7 (at + 2) 0x4C tag place l e f h
 
   track_code : (k tag place : ℕ) → k < 7 → tag ≡ 0x4C + k → place ≡ at + 2 + 3 * k → is_text tag ≡ false → is_eight tag ≡ false → is_code tag ≡ true
@@ -255,12 +255,12 @@ module _ (text ts : List ℕ) (at : ℕ) (own : own_fault (track_at ts at) ≡ 0
       let n = hidden_none (track_at ts at).slots (not_barred (track_at ts at) own) e in
       (sym (gives_4_d ts at) ∙ n.0, sym (gives_4_e ts at) ∙ n.1, sym (gives_4_f ts at) ∙ n.2)
 
-  version_is : pick (null_name (track_at ts at).slots) value.Absent (answer.value_of (find 0x4E 0 (items_of text (track_at ts at).slots))) ≡ value_given (slot_at ts (at + 8) 0x4E)
+  version_is : pick (null_name (track_at ts at).slots) None (answer.value_of (find 0x4E 0 (items_of text (track_at ts at).slots))) ≡ value_given (slot_at ts (at + 8) 0x4E)
   unfolding is_text is_eight is_code has value_given
   version_is = go (null_name (track_at ts at).slots) refl
     where
       go : (b : Bool) → null_name (track_at ts at).slots ≡ b
-          → pick b value.Absent (answer.value_of (find 0x4E 0 (items_of text (track_at ts at).slots))) ≡ pick (eqb (get_or ts (at + 8) 0) 1) (value.Is (get_or ts (at + 8 + 1) 0)) value.Absent
+          → pick b None (answer.value_of (find 0x4E 0 (items_of text (track_at ts at).slots))) ≡ pick (eqb (get_or ts (at + 8) 0) 1) (Some (get_or ts (at + 8 + 1) 0)) None
       go true e = rw (hidden e).1
       go false e =
           same_value _ _ (track_held 2 0x4E (at + 8) (omega arith) refl (omega arith))
@@ -304,12 +304,12 @@ module _ (text ts : List ℕ) (at : ℕ) (own : own_fault (track_at ts at) ≡ 0
       )
 
 -- every track is listed
-listed_track : (text : List ℕ) (t : Given) → own_fault t ≡ 0 → is_listed (described (parts_of_track text t)) ≡ true
+listed_track : (text : List ℕ) (t : Given) → own_fault t ≡ None → is_listed (described (parts_of_track text t)) ≡ true
 unfolding is_listed described
 listed_track text t h = rw add-sub_cancel_left (own_known t h)
 
 module _ (text ts : List ℕ) where
-  pub tracks_told : (n at : ℕ) → tracks_fault text (tracks_from n ts at) ≡ 0
+  pub tracks_told : (n at : ℕ) → tracks_fault text (tracks_from n ts at) ≡ None
       → (map track_view_of_parts (listed_of (map (parts_of_track text) (tracks_from n ts at))) ≡ track_views_given n text ts at) × (length (listed_of (map (parts_of_track text) (tracks_from n ts at))) ≡ n)
   unfolding tracks_from track_views_given listed_of
   tracks_told zero at h = (refl, refl)

@@ -6,6 +6,8 @@ use mathlib.Core.List.{List, [], ◌∷◌, map}
 use native.Mathlib.Omega.{arith}
 use native.Mathlib.Nat.{add-sub_cancel_left}
 use lib.ListN.{length}
+use Rattle.std.specs.Prelude.{Result, Ok, Err, ⊤, None}
+use Rattle.plate.specs.Plate.{number}
 use Rattle.plate.specs.Choice.{pick}
 use Rattle.plate.specs.declared.Refusal.{Refusal}
 use Rattle.media_type.specs.MediaType.{mpeg_type, wrong_form}
@@ -13,8 +15,7 @@ use Rattle.map_items.specs.Items.{Item, section_of, items_bytes}
 use Rattle.map_items.specs.Find.{Found, missing, found, find}
 use Rattle.map_items.specs.Judge.{bad}
 use Rattle.map_items.specs.declared.Section.TheVariants as section
-use Rattle.map_items.specs.declared.Verdict.{Verdict}
-use Rattle.map_items.specs.declared.Verdict.TheVariants.{Accepted, Refused}
+use Rattle.plate.specs.declared.Fault.TheVariants as fault
 use Rattle.map_items.proofs.Anywhere.{never, not_accepted, verdict_bytes}
 use Rattle.map_items.proofs.Split.{section_bytes_lem}
 use Rattle.map_tracks.specs.Tracks.{Description, over, track_over, judge_tracks}
@@ -25,7 +26,6 @@ use Rattle.map.specs.Encode.{described}
 use Rattle.map.specs.Map.{map_verdict}
 use Rattle.map.proofs.Encoded.{verdict_of_encoded}
 use Rattle.map.proofs.Parts.{good_encoded}
-use Rattle.packet_writer.specs.declared.WriteAnswer.TheVariants as write
 use Rattle.map_given.specs.Given.{track_at, tracks_from, tracks_given}
 use Rattle.map_given.specs.Faults.{slots_fault, given, null_name, own_fault, tracks_fault, id_fault, ids_fault, fault_of, given_wrong, any_wrong}
 use Rattle.map_given.proofs.Laws.{none_graver}
@@ -40,7 +40,7 @@ use Rattle.map_writer.proofs.RoundTrip.{fit}
 use Rattle.map_writer.proofs.Largest.{refused_as}
 
 -- a track that is given the wrong form, and has no other fault, does not pass at its end
-module _ (text ts : List ℕ) (at : ℕ) (o : own_fault (track_at ts at) ≡ 0) (h : slots_fault text (track_at ts at).slots ≡ 0) (g : given_wrong (track_at ts at) ≡ true) where
+module _ (text ts : List ℕ) (at : ℕ) (o : own_fault (track_at ts at) ≡ None) (h : slots_fault text (track_at ts at).slots ≡ None) (g : given_wrong (track_at ts at) ≡ true) where
   -- its name is not null, as that would bar either form
   not_null : null_name (track_at ts at).slots ≡ false
   unfolding given_wrong wrong_form
@@ -56,7 +56,7 @@ module _ (text ts : List ℕ) (at : ℕ) (o : own_fault (track_at ts at) ≡ 0) 
           either true a b k = never (sym k ∙ a)
           either false a b k = never (sym k ∙ b)
 
-  not_over : track_over (0x80 + (track_at ts at).media_type) (items_of text (track_at ts at).slots) 0 ≡ Accepted → ⊥
+  not_over : track_over (0x80 + (track_at ts at).media_type) (items_of text (track_at ts at).slots) 0 ≡ (Ok tt) → ⊥
   unfolding given_wrong
   not_over e = go (find (wrong_form (track_at ts at).media_type) 0 (items_of text (track_at ts at).slots)) refl
     where
@@ -66,24 +66,24 @@ module _ (text ts : List ℕ) (at : ℕ) (o : own_fault (track_at ts at) ≡ 0) 
       go : (x : Found) → find (wrong_form (track_at ts at).media_type) 0 (items_of text (track_at ts at).slots) ≡ x → ⊥
       go missing f = given_found text ts 7 (at + 2) 0x4C (wrong_form (track_at ts at).media_type) 0 g f
       go (found q v) f =
-          not_accepted 29 (q - 2)
+          not_accepted fault.WrongForm (q - 2)
           (on_wrong (0x80 + (track_at ts at).media_type) (items_of text (track_at ts at).slots) 0 (rw same (own_known (track_at ts at) o)) (null_is text ts at o h ∙ not_null) q (length v) (rw (same, f) refl) ∙ e)
 
 -- a track put together from items that does not pass at its end, whatever its place, and one that does
 module _ (ids : List ℕ) (p : ℕ) (d : Description) (ds : List Description) (o : Otherwise ids p d) (is : List Item) (l : (section_of d.items).list ≡ is) where
-  wrong_here : (track_over d.type_byte is 0 ≡ Accepted → ⊥) → (q : ℕ) × (judge_tracks ids p (d ∷ ds) over ≡ bad 29 q)
+  wrong_here : (track_over d.type_byte is 0 ≡ (Ok tt) → ⊥) → (q : ℕ) × (judge_tracks ids p (d ∷ ds) over ≡ bad fault.WrongForm q)
   wrong_here h = go (track_over d.type_byte (section_of d.items).list (p + 4)) refl
     where
-      go : (v : Verdict) → track_over d.type_byte (section_of d.items).list (p + 4) ≡ v → (q : ℕ) × (judge_tracks ids p (d ∷ ds) over ≡ bad 29 q)
-      go Accepted e = absurd (h (over_anywhere d.type_byte is (p + 4) 0 (rw l at e)))
-      go (Refused r) e = (r.place, to_form ids p d ds over o ∙ rw e (ap Refused (refused_wrong p d o.items r e).0))
+      go : (v : Result ⊤ Refusal) → track_over d.type_byte (section_of d.items).list (p + 4) ≡ v → (q : ℕ) × (judge_tracks ids p (d ∷ ds) over ≡ bad fault.WrongForm q)
+      go (Ok _) e = absurd (h (over_anywhere d.type_byte is (p + 4) 0 (rw l at e)))
+      go (Err r) e = (r.place, to_form ids p d ds over o ∙ rw e (ap Err (refused_wrong p d o.items r e).0))
 
-  right_here : track_over d.type_byte is (p + 4) ≡ Accepted → judge_tracks ids p (d ∷ ds) over ≡ judge_tracks (d.id ∷ ids) (behind p d) ds over
+  right_here : track_over d.type_byte is (p + 4) ≡ (Ok tt) → judge_tracks ids p (d ∷ ds) over ≡ judge_tracks (d.id ∷ ids) (behind p d) ds over
   right_here h = to_form ids p d ds over o ∙ rw (l, h)
 
 -- ---- the tracks of an input without another fault
 module _ (text ts : List ℕ) where
-  passes : (at p : ℕ) (ids marked : List ℕ) → Same ids marked → own_fault (track_at ts at) ≡ 0 → slots_fault text (track_at ts at).slots ≡ 0 → id_fault ids (track_at ts at).id ≡ 0
+  passes : (at p : ℕ) (ids marked : List ℕ) → Same ids marked → own_fault (track_at ts at) ≡ None → slots_fault text (track_at ts at).slots ≡ None → id_fault ids (track_at ts at).id ≡ None
       → Otherwise marked p (described (parts_of_track text (track_at ts at)))
   unfolding described
   passes at p ids marked f o h i =
@@ -98,8 +98,8 @@ module _ (text ts : List ℕ) where
   unfolding described
   items_are at = rw (section_bytes_lem (items_of text (track_at ts at).slots))
 
-  judged_wrong : (n at p : ℕ) (ids marked : List ℕ) → Same ids marked → tracks_fault text (tracks_from n ts at) ≡ 0 → ids_fault ids (tracks_from n ts at) ≡ 0
-      → any_wrong (tracks_from n ts at) ≡ true → (q : ℕ) × (judge_tracks marked p (map described (map (parts_of_track text) (tracks_from n ts at))) over ≡ bad 29 q)
+  judged_wrong : (n at p : ℕ) (ids marked : List ℕ) → Same ids marked → tracks_fault text (tracks_from n ts at) ≡ None → ids_fault ids (tracks_from n ts at) ≡ None
+      → any_wrong (tracks_from n ts at) ≡ true → (q : ℕ) × (judge_tracks marked p (map described (map (parts_of_track text) (tracks_from n ts at))) over ≡ bad fault.WrongForm q)
   unfolding tracks_from ids_fault any_wrong described
   judged_wrong zero at p ids marked f h k w = never (sym w)
   judged_wrong (suc n) at p ids marked f h k w =
@@ -121,7 +121,7 @@ module _ (text ts : List ℕ) where
       go false e h wrong right = right e h
 
 -- ---- the packet
-module _ (text ms ts : List ℕ) (e : fault_of text ms ts ≡ 0) where
+module _ (text ms ts : List ℕ) (e : fault_of text ms ts ≡ None) where
   c : Clean text ms ts
   c = clean text ms ts e
 
@@ -129,27 +129,27 @@ module _ (text ms ts : List ℕ) (e : fault_of text ms ts ≡ 0) where
   unfolding map_packet parts_given
   verdict_is = verdict_of_encoded (parts_given text ms ts) (fit [] 0 text ms ts 0 c) ∙ rw (material_good text ms 20 c.material)
 
-  refused_there : any_wrong (tracks_given ts) ≡ true → (q : ℕ) × (map_verdict (map_packet text ms ts) ≡ bad 29 q)
+  refused_there : any_wrong (tracks_given ts) ≡ true → (q : ℕ) × (map_verdict (map_packet text ms ts) ≡ bad fault.WrongForm q)
   unfolding parts_given
   refused_there w =
       let j = judged_wrong text ts (length ts / 23) 0 (22 + length (items_bytes (parts_given text ms ts).material)) [] [] (λ x. none_same x) c.tracks c.ids w in
       (j.0, verdict_is ∙ j.1)
 
-  accepted_there : any_wrong (tracks_given ts) ≡ false → map_verdict (map_packet text ms ts) ≡ Accepted
+  accepted_there : any_wrong (tracks_given ts) ≡ false → map_verdict (map_packet text ms ts) ≡ (Ok tt)
   unfolding map_packet
   accepted_there w = good_encoded (parts_given text ms ts) (fit [] 0 text ms ts 0 c) (parts_good text ms ts c w)
 
-only : (out : List ℕ) (at : ℕ) (text ms ts : List ℕ) (r : Refusal) → map_written_answer out at text ms ts ≡ write.Refused r → r.number ≡ 29 → (fault_of text ms ts ≡ 0) × (any_wrong (tracks_given ts) ≡ true)
+only : (out : List ℕ) (at : ℕ) (text ms ts : List ℕ) (r : Refusal) → map_written_answer out at text ms ts ≡ Err r → number r ≡ 29 → (fault_of text ms ts ≡ None) × (any_wrong (tracks_given ts) ≡ true)
 only out at text ms ts r e n =
     refused_as out at text ms ts r e
-    (λ p q. absurd (not_29 (fault_of text ms ts) (fault_named text ms ts) (ap (λ (x : Refusal). x.number) q ∙ n)))
+    (λ f p q. absurd (not_29 f (rw p at (fault_named text ms ts)) (ap (λ (x : Refusal). (number x)) q ∙ n)))
     (λ f w q. (f, w))
-    (λ f w q. absurd (let z : ◌≡◌ {A = ℕ} 13 29 = ap (λ (x : Refusal). x.number) q ∙ n in omega arith))
+    (λ f w q. absurd (let z : ◌≡◌ {A = ℕ} 13 29 = ap (λ (x : Refusal). (number x)) q ∙ n in omega arith))
 
 pub writer_form : WriterForm
 writer_form =
     record {
-      after = λ out at text ms ts h. (faulty out at text ms ts (fault_of text ms ts) refl h).0;
+      after = λ out at text ms ts f e. (faulty out at text ms ts f e).0;
       given = λ out at text ms ts f w. (wrong_formed out at text ms ts f w).0;
       only = only;
       refused_there = refused_there;

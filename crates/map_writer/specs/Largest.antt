@@ -1,13 +1,14 @@
 -- How long a written map can be (RDD 14, clause 7.1, Tables 3 to 6; 01, "Writers"; docs/DECISIONS.md, F22): what no input without fault passes, an input that reaches it, and the room that is enough for every map.
 -- A length word states up to 65,535 bytes, so each section fits, and no refusal is needed for one that does not. Proved in proofs/Largest.antt.
-use Rattle.std.specs.Prelude.{ℕ, zero, suc, ◌+◌, ◌-◌, ◌≤◌, ◌<◌, ◌≡◌, true, false, List, [], ◌∷◌, ◌++◌, map, length, replicate}
+use Rattle.std.specs.Prelude.{ℕ, zero, suc, ◌+◌, ◌-◌, ◌≤◌, ◌<◌, ◌≡◌, true, false, List, [], ◌∷◌, ◌++◌, map, length, replicate, Ok, Err, None}
+use Rattle.plate.specs.Plate.{number}
 use Rattle.plate.specs.declared.Refusal.{Refusal}
+use Rattle.plate.specs.declared.Fault.TheVariants as fault
 use Rattle.map_items.specs.Items.{items_bytes}
 use Rattle.map_items.specs.Judge.{has}
 use Rattle.map_tracks.specs.Tracks as tracks
 use Rattle.map.specs.Encode.{TrackParts, MapParts, described}
 use Rattle.packet_writer.specs.Write.{refused}
-use Rattle.packet_writer.specs.declared.WriteAnswer.TheVariants.{Length, Refused}
 use Rattle.map_given.specs.Given.{tracks_given}
 use Rattle.map_given.specs.Faults.{fault_of, any_wrong}
 use Rattle.map_writer.specs.Write.{parts_given, map_packet, map_written_answer}
@@ -66,19 +67,19 @@ largest_tracks = largest_tracks_from 64 0
 
 pub record Largest : Type 0 where
   -- no input without 24, 11 and 10 passes the bounds
-  pub most : (text ms ts : List ℕ) → fault_of text ms ts ≡ 0 → Sizes ◌≤◌ text ms ts
+  pub most : (text ms ts : List ℕ) → fault_of text ms ts ≡ None → Sizes ◌≤◌ text ms ts
   -- so each section fits its length word
-  pub fits : (text ms ts : List ℕ) → fault_of text ms ts ≡ 0 → (material_length (parts_given text ms ts) ≤ 65535) × (tracks_length (parts_given text ms ts) ≤ 65535)
+  pub fits : (text ms ts : List ℕ) → fault_of text ms ts ≡ None → (material_length (parts_given text ms ts) ≤ 65535) × (tracks_length (parts_given text ms ts) ≤ 65535)
   -- and a length that is answered is 35,000 at most
-  pub lengths : (out : List ℕ) (at : ℕ) (text ms ts : List ℕ) (n : ℕ) → map_written_answer out at text ms ts ≡ Length n → n ≤ 35000
+  pub lengths : (out : List ℕ) (at : ℕ) (text ms ts : List ℕ) (n : ℕ) → map_written_answer out at text ms ts ≡ Ok n → n ≤ 35000
   -- the largest map, which has no 24, 11 or 10 and no wrong form, is at every one of the bounds
-  pub sound : fault_of largest_text largest_material largest_tracks ≡ 0
+  pub sound : fault_of largest_text largest_material largest_tracks ≡ None
   pub form : any_wrong (tracks_given largest_tracks) ≡ false
   pub reached : Sizes (◌≡◌ {A = ℕ}) largest_text largest_material largest_tracks
   -- 35,000 bytes from the place on are room enough for every map: it is written, and no call is refused with 13
-  pub written : (out : List ℕ) (at : ℕ) (text ms ts : List ℕ) → at + 35000 ≤ length out → fault_of text ms ts ≡ 0 → any_wrong (tracks_given ts) ≡ false → map_written_answer out at text ms ts ≡ Length (length (map_packet text ms ts))
-  pub never_13 : (out : List ℕ) (at : ℕ) (text ms ts : List ℕ) (r : Refusal) → at + 35000 ≤ length out → map_written_answer out at text ms ts ≡ Refused r → r.number ≡ 13 → ⊥
+  pub written : (out : List ℕ) (at : ℕ) (text ms ts : List ℕ) → at + 35000 ≤ length out → fault_of text ms ts ≡ None → any_wrong (tracks_given ts) ≡ false → map_written_answer out at text ms ts ≡ Ok (length (map_packet text ms ts))
+  pub never_13 : (out : List ℕ) (at : ℕ) (text ms ts : List ℕ) (r : Refusal) → at + 35000 ≤ length out → map_written_answer out at text ms ts ≡ Err r → number r ≡ 13 → ⊥
   -- and fewer are not: the largest map is refused there
-  pub fewer_13 : (out : List ℕ) (at : ℕ) → length out - at < 35000 → map_written_answer out at largest_text largest_material largest_tracks ≡ refused 13
+  pub fewer_13 : (out : List ℕ) (at : ℕ) → length out - at < 35000 → map_written_answer out at largest_text largest_material largest_tracks ≡ refused fault.Room
   -- a refusal is 24, 11, 10, 29 or 13, its place is 0, and no bytes lack with it
-  pub refusals : (out : List ℕ) (at : ℕ) (text ms ts : List ℕ) (r : Refusal) → map_written_answer out at text ms ts ≡ Refused r → (has r.number (24 ∷ 11 ∷ 10 ∷ 29 ∷ 13 ∷ []) ≡ true) × (r.place ≡ 0) × (r.lacking ≡ 0)
+  pub refusals : (out : List ℕ) (at : ℕ) (text ms ts : List ℕ) (r : Refusal) → map_written_answer out at text ms ts ≡ Err r → (has (number r) (24 ∷ 11 ∷ 10 ∷ 29 ∷ 13 ∷ []) ≡ true) × (r.place ≡ 0) × (r.lacking ≡ 0)

@@ -1,9 +1,7 @@
 -- What was given, as an answer shows it, places aside: what a reader of the written map is to be told.
-use Rattle.std.specs.Prelude.{ℕ, zero, suc, ◌+◌, ◌/◌, List, [], ◌∷◌, ◌++◌, length, get_or, take, drop, eqb}
+use Rattle.std.specs.Prelude.{ℕ, zero, suc, ◌+◌, ◌/◌, List, [], ◌∷◌, ◌++◌, length, get_or, take, drop, eqb, Option, Some, None}
 use Rattle.plate.specs.Choice.{pick}
 use Rattle.map_aspect.specs.Aspect.{aspect_of}
-use Rattle.map_answer.specs.declared.Value.{Value}
-use Rattle.map_answer.specs.declared.Value.TheVariants as value
 use Rattle.map_answer.specs.declared.Code.{Code}
 use Rattle.map_answer.specs.declared.Code.TheVariants as code
 use Rattle.map.specs.View.{Held, nothing, bytes, held_bytes, MaterialView, TrackView, MapView}
@@ -19,8 +17,8 @@ unfoldable pub eight_given : List ℕ → Slot → Held
 eight_given text s = pick (eqb s.mark 1) (bytes 8 (take 8 (drop s.first text))) nothing
 
 -- the number as it was given
-unfoldable pub value_given : Slot → Value
-value_given s = pick (eqb s.mark 1) (value.Is s.first) value.Absent
+unfoldable pub value_given : Slot → Option ℕ
+value_given s = pick (eqb s.mark 1) (Some s.first) None
 
 -- the code: −1 is not applicable, −2 not available
 unfoldable pub code_given : Slot → Code

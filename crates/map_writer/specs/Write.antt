@@ -1,14 +1,16 @@
 -- Writing a map (RDD 14, clause 7.1, Tables 3 to 6; 01, "Writers"; 02, §12): the packet, the answer, and what the buffer then holds.
-use Rattle.std.specs.Prelude.{ℕ, ◌+◌, List, [], ◌∷◌, ◌++◌, map, length, eqb}
+use Rattle.std.specs.Prelude.{ℕ, ◌+◌, List, [], ◌∷◌, ◌++◌, map, length, eqb, Option, Some, None, Result}
 use Rattle.plate.specs.Choice.{pick}
 use Rattle.number.specs.Number.{be_bytes}
 use Rattle.map_items.specs.Items.{Item}
 use Rattle.map.specs.Encode.{TrackParts, MapParts, encode}
 use Rattle.packet_writer.specs.Write.{refused, if_room, buffer_after}
-use Rattle.packet_writer.specs.declared.WriteAnswer.{WriteAnswer}
 use Rattle.map_given.specs.Given.{material_slots, Given, tracks_given}
 use Rattle.map_given.specs.Faults.{is_text, is_eight, slot_part, fault_of, any_wrong}
 use Rattle.map_given.specs.declared.Slot.{Slot}
+use Rattle.plate.specs.declared.Refusal.{Refusal}
+use Rattle.plate.specs.declared.Fault.{Fault}
+use Rattle.plate.specs.declared.Fault.TheVariants as fault
 
 -- the bytes of a present slot's item: a text gets its 00; a number has four bytes, and so have −1 and −2
 unfoldable pub slot_value : List ℕ → Slot → List ℕ
@@ -36,12 +38,16 @@ parts_given text ms ts =
 unfoldable pub map_packet : List ℕ → List ℕ → List ℕ → List ℕ
 map_packet text ms ts = encode (parts_given text ms ts)
 
+-- a fault's refusal, or what else there is
+abbrev pub or_refused : Option Fault → Result ℕ Refusal → Result ℕ Refusal
+or_refused (Some f) a = refused f
+or_refused None a = a
+
 -- 24, 11, 10; then 29; then 13; else the packet's length
-unfoldable pub map_written_answer : List ℕ → ℕ → List ℕ → List ℕ → List ℕ → WriteAnswer
+unfoldable pub map_written_answer : List ℕ → ℕ → List ℕ → List ℕ → List ℕ → Result ℕ Refusal
 map_written_answer out at text ms ts =
-    pick (eqb (fault_of text ms ts) 0)
-    (pick (any_wrong (tracks_given ts)) (refused 29) (if_room out at (length (map_packet text ms ts))))
-    (refused (fault_of text ms ts))
+    or_refused (fault_of text ms ts)
+    (pick (any_wrong (tracks_given ts)) (refused fault.WrongForm) (if_room out at (length (map_packet text ms ts))))
 
 -- what the buffer then holds
 unfoldable pub map_written_in : List ℕ → ℕ → List ℕ → List ℕ → List ℕ → List ℕ

@@ -5,19 +5,18 @@ use mathlib.Core.List.{List}
 use native.Mathlib.Omega.{arith}
 use lib.ListN.{length, get_or, take, drop}
 use lib.Dec.{ltb}
+use Rattle.std.specs.Prelude.{Result, Ok, Err}
 use Rattle.plate.specs.declared.Refusal.{Refusal}
+use Rattle.media.specs.declared.Media.{Media}
 use Rattle.plate.proofs.Numbers.{either, Among}
 use Rattle.packet.specs.Packet.{header_at}
 use Rattle.packet.specs.Lacking.{PassedOn}
-use Rattle.packet.specs.declared.PacketAnswer.TheVariants as packet
 use Rattle.packet.proofs.Torn.{type_passes, passed_by}
 use Rattle.media.specs.Media.{preamble_of, preamble_in, preamble_at}
-use Rattle.media.specs.declared.MediaAnswer.{MediaAnswer}
-use Rattle.media.specs.declared.MediaAnswer.TheVariants as media
 
-abbrev pub OfMedia : MediaAnswer → Type 0
-OfMedia (media.Preamble m) = Unit {0}
-OfMedia (media.Refused r) = Among 8 12 r
+abbrev pub OfMedia : Result Media Refusal → Type 0
+OfMedia (Ok m) = Unit {0}
+OfMedia (Err r) = Among 8 12 r
 
 pub preamble_numbers : (p : List ℕ) (at : ℕ) → OfMedia (preamble_of p at)
 unfolding preamble_of
@@ -26,10 +25,10 @@ preamble_numbers p at =
 
 -- what the header is refused with, the preamble is refused with, and its 5 is the header's
 module _ (s : List ℕ) (at : ℕ) (r : Refusal) where
-  pub preamble_passes : header_at s at ≡ packet.Refused r → preamble_at s at ≡ media.Refused r
+  pub preamble_passes : header_at s at ≡ Err r → preamble_at s at ≡ Err r
   unfolding preamble_at
   preamble_passes e = rw (type_passes s at 0xBF r e)
 
-  pub preamble_passed : preamble_at s at ≡ media.Refused r → PassedOn s at r
+  pub preamble_passed : preamble_at s at ≡ Err r → PassedOn s at r
   unfolding preamble_at
-  preamble_passed = passed_by (preamble_in s at) (media.Refused r) s at 0xBF r (omega arith) (λ q e. cc) (λ p e. subst OfMedia e (preamble_numbers (take p.len (drop at s)) at))
+  preamble_passed = passed_by (preamble_in s at) (Err r) s at 0xBF r (omega arith) (λ q e. cc) (λ p e. subst OfMedia e (preamble_numbers (take p.len (drop at s)) at))

@@ -1,14 +1,13 @@
 -- The media preamble (RDD 14, clause 7.4.2.1 and Table 21; 01, "FLT and media"): sixteen bytes, numbers most significant byte first.
-use Rattle.std.specs.Prelude.{ℕ, ◌-◌, List, length, get_or, take, drop, ltb}
+use Rattle.std.specs.Prelude.{ℕ, ◌-◌, List, length, get_or, take, drop, ltb, Result, Ok, Err}
 use Rattle.plate.specs.Choice.{pick}
 use Rattle.plate.specs.Plate.{refusal}
 use Rattle.number.specs.Number.{be}
 use Rattle.packet.specs.Packet.{packet_at, type_media}
-use Rattle.packet.specs.declared.PacketAnswer.{PacketAnswer}
-use Rattle.packet.specs.declared.PacketAnswer.TheVariants.{Whole, Refused as NoPacket}
 use Rattle.media.specs.declared.Media.{Media}
-use Rattle.media.specs.declared.MediaAnswer.{MediaAnswer}
-use Rattle.media.specs.declared.MediaAnswer.TheVariants.{Preamble, Refused}
+use Rattle.packet.specs.declared.Packet.{Packet}
+use Rattle.plate.specs.declared.Refusal.{Refusal}
+use Rattle.plate.specs.declared.Fault.TheVariants as fault
 
 -- the offsets of Table 21, from the payload's first byte, at 16 of the packet's; the byte at 31 is reserved
 abbrev pub fields_of : List ℕ → Media
@@ -23,15 +22,15 @@ fields_of p =
     }
 
 -- of the bytes of a packet that stands at a position of lent bytes: 8 at 16, then 12 at that position for an ID over 63, both of any media type
-unfoldable pub preamble_of : List ℕ → ℕ → MediaAnswer
+unfoldable pub preamble_of : List ℕ → ℕ → Result Media Refusal
 preamble_of p at =
-    pick (ltb (length p - 16) 16) (Refused (refusal 8 16))
-    (pick (ltb 63 (get_or p 17 0)) (Refused (refusal 12 at)) (Preamble (fields_of p)))
+    pick (ltb (length p - 16) 16) (Err (refusal fault.Overhang 16))
+    (pick (ltb 63 (get_or p 17 0)) (Err (refusal fault.TypeOrId at)) (Ok (fields_of p)))
 
 -- the same of the packet at a position of lent bytes, which is to be a media packet
-abbrev pub preamble_in : List ℕ → ℕ → PacketAnswer → MediaAnswer
-preamble_in s at (NoPacket r) = Refused r
-preamble_in s at (Whole p) = preamble_of (take p.len (drop at s)) at
+abbrev pub preamble_in : List ℕ → ℕ → Result Packet Refusal → Result Media Refusal
+preamble_in s at (Err r) = Err r
+preamble_in s at (Ok p) = preamble_of (take p.len (drop at s)) at
 
-unfoldable pub preamble_at : List ℕ → ℕ → MediaAnswer
+unfoldable pub preamble_at : List ℕ → ℕ → Result Media Refusal
 preamble_at s at = preamble_in s at (packet_at s at type_media)

@@ -4,45 +4,28 @@
 ghost use Rattle.std.specs.Prelude.{◌≡◌};
 ghost use Rattle.media_type.specs.MediaType.{known_type, mpeg_type, wrong_form};
 
-// Whether a bare media type is one of the table's; all others are reserved.
+// Whether a bare media type is one of the table's; all others are reserved. The upper ones are tested first, as one range of all three is slower in a look-up (docs/SPEED.md).
+#[tactic(auto, unfolding(crate::specs::MediaType::known_type))]
 pub fn is_known(media_type: u8) -> bool
     ensures { result ≡ known_type media_type }
 {
     if 20 <= media_type {
-        return media_type <= 26;
+        media_type <= 26
+    } else {
+        matches!(media_type, 3..=4 | 7..=18)
     }
-    if media_type < 3 {
-        return false;
-    }
-    if media_type <= 4 {
-        return true;
-    }
-    if media_type < 7 {
-        return false;
-    }
-    media_type <= 18
 }
 
 // Whether a bare media type is MPEG video: 11, 12, 20, 22 or 23.
+#[tactic(auto, unfolding(crate::specs::MediaType::mpeg_type))]
 pub fn is_mpeg(media_type: u8) -> bool
     ensures { result ≡ mpeg_type media_type }
 {
-    if media_type < 11 {
-        return false;
-    }
-    if media_type <= 12 {
-        return true;
-    }
-    if media_type == 20 {
-        return true;
-    }
-    if media_type < 22 {
-        return false;
-    }
-    media_type <= 23
+    matches!(media_type, 11..=12 | 20 | 22..=23)
 }
 
 // The tag of the auxiliary item that a listed track of a media type may not have: 4D for MPEG video, 4F for every other.
+#[tactic(auto, unfolding(crate::specs::MediaType::wrong_form))]
 pub fn wrong_form(media_type: u8) -> u8
     ensures { result ≡ wrong_form media_type }
 {

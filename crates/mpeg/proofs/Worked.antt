@@ -3,6 +3,7 @@ use Prim.Native.Nat.{ℕ, ◌^◌}
 use mathlib.Core.Path.{◌≡◌, refl}
 use mathlib.Core.List.{List, [], ◌∷◌, map}
 use lib.Ieee as Ieee
+use Rattle.std.specs.Prelude.{Ok}
 use Rattle.number.specs.Number.{be}
 use Rattle.text.specs.Text.{text_ok}
 use Rattle.mpeg_scan.specs.Scan.{run, run_end, alnum, other}
@@ -13,7 +14,6 @@ use Rattle.mpeg_parameter.specs.Meaning.{bits_of}
 use Rattle.mpeg.specs.Lines.{label_at, lines_from, lines_at}
 use Rattle.mpeg.specs.Read.{taken, judge_lines, parameters_answer, read_of}
 use Rattle.mpeg_parameter.specs.declared.ParameterValue.TheVariants.{Whole, Rate}
-use Rattle.mpeg.specs.declared.MpegAnswer.TheVariants.{Given}
 
 -- 0.5; 9007199254.740992, the largest; 0; 0.000001; 50000000; 0.123456
 pub bits : map bits_of (500000 ∷ 2 ^ 53 ∷ 0 ∷ 1 ∷ 50000000000000 ∷ 123456 ∷ [])
@@ -40,7 +40,7 @@ text =
     ∷ 0x00 ∷ []
 
 pub whole_text : read_of text
-    ≡ Given (record {
+    ≡ Ok (record {
       ver = Whole 1;
       br = Rate (millionths 500000);
       ipg = Whole 1;

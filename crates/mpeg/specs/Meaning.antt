@@ -1,8 +1,6 @@
 -- What the parameters of an accepted text mean, by the numbers that its lines give (01, "MPEG auxiliary text"). Proved in proofs/Meaning.antt.
-use Rattle.std.specs.Prelude.{ℕ, ◌-◌, ◌≡◌, List, length, take, eqb}
+use Rattle.std.specs.Prelude.{ℕ, ◌-◌, ◌≡◌, List, length, take, eqb, Bool, false, Option, Some, None}
 use Rattle.plate.specs.Choice.{pick, within}
-use Rattle.mpeg_decimal.specs.declared.Amount.{Amount}
-use Rattle.mpeg_decimal.specs.declared.Amount.TheVariants.{Of, Malformed}
 use Rattle.mpeg_parameter.specs.Table.{row_at, least, most}
 use Rattle.mpeg_parameter.specs.Parameters.{amount_of}
 use Rattle.mpeg_parameter.specs.Meaning.{number, float, meaning_of, bits_of}
@@ -16,15 +14,20 @@ pub data Number : Type 0 where
   is : ℕ → Number
 
 -- a value outside the list of row k counts as not given
-abbrev pub listed : ℕ → Amount → Number
-listed k Malformed = none
-listed k (Of n) = pick (within (least (row_at k)) (most (row_at k)) n) (is n) none
+abbrev pub listed : ℕ → Option ℕ → Number
+listed k None = none
+listed k (Some n) = pick (within (least (row_at k)) (most (row_at k)) n) (is n) none
+
+-- whether a line's row is row k
+abbrev pub is_row : ℕ → Option ℕ → Bool
+is_row k None = false
+is_row k (Some j) = eqb j k
 
 -- by the first line of row k; an accepted text has no second
 unfoldable pub given_by : ℕ → Lines → Number
 given_by k done = none
 given_by k (malformed p) = none
-given_by k (line p j v rest) = pick (eqb j k) (listed k (amount_of (row_at k) v)) (given_by k rest)
+given_by k (line p row v rest) = pick (is_row k row) (listed k (amount_of (row_at k) v)) (given_by k rest)
 
 -- the closing 00 is no part of the lines
 unfoldable pub given_in : List ℕ → ℕ → Number

@@ -4,92 +4,70 @@
 ghost use Rattle.std.specs.Prelude.{◌≡◌, ◌<◌, ◌≤◌, length, get_or, eqb};
 ghost use Rattle.mpeg_parameter.specs.Table.{row_of};
 ghost use Rattle.mpeg.specs.Lines.{label_at, value_then, lines_at};
-ghost use Rattle.mpeg.specs.Read.{taken, judge_lines, parameters_answer, read_of, ratio_of};
-ghost use Rattle.mpeg.specs.Inside.{Agrees, Skipped};
+ghost use Rattle.mpeg.specs.Read.{taken, judge_lines, read_of, ratio_of};
+ghost use Rattle.mpeg.specs.Inside.{Known, Agrees, Skipped, completed};
 
-use mpeg_decimal::Amount;
 use mpeg_parameter::{ParameterValue, Parameters};
-use plate::Refusal;
+use plate::{Fault, Refusal};
 
+// What the lines gave each row's parameter, if one did.
+type Slots = [Option<u64>; 14];
+
+// An identifier that stands at a place: its row, if it is known, and where its value begins.
 #[derive(Clone, Copy)]
-pub enum MpegAnswer {
-    Given(Parameters),
-    Refused(Refusal),
+struct Label {
+    row: Option<usize>,
+    value: usize,
 }
 
-#[derive(Clone, Copy)]
-pub enum RatioAnswer {
-    Given(ParameterValue),
-    Refused(Refusal),
-}
-
-// What the lines so far come to: none at fault, or the first fault.
-#[derive(Clone, Copy)]
-enum Verdict {
-    Fine,
-    Bad(Refusal),
-}
-
-// An identifier that stands at a place: its row and where its value begins; or none.
-#[derive(Clone, Copy)]
-enum Label {
-    Names(usize, usize),
-    Broken,
-}
-
-// The row of an identifier, or 14; the table's longest has five bytes.
-fn row_of(v: &[u8]) -> usize
+// The row of an identifier; the table's longest has five bytes.
+fn row_of(v: &[u8]) -> Option<usize>
     requires { 0 < get_or v.now 0 0 }
     ensures { result ≡ row_of v.now }
 {
     if 5 < v.len() {
-        return 14;
+        return None;
     }
     mpeg_parameter::row_for(number::be_at(v, 0, v.len()) as u64)
 }
 
 // A line's value goes into its row's slot; 26 comes before 10, and an unknown identifier is passed over.
-fn take_line(slots: &mut [u64; 14], line: usize, k: usize, v: &[u8]) -> Verdict
-    ensures { Agrees (taken slots.old line k v.now) result slots.new }
+fn take_line(slots: &mut Slots, line: usize, row: Option<usize>, v: &[u8]) -> Result<(), Refusal>
+    requires { Known row }
+    ensures { Agrees (taken slots.old line row v.now) result slots.new }
 {
-    if 14 <= k {
-        return Verdict::Fine;
+    let Some(k) = row else {
+        return Ok(());
+    };
+    let Some(n) = mpeg_parameter::amount(k, v) else {
+        return Err(plate::refuse(Fault::AuxiliaryLine, line));
+    };
+    if slots[k].is_some() {
+        return Err(plate::refuse(Fault::Twice, line));
     }
-    match mpeg_parameter::amount(k, v) {
-        Amount::Malformed => Verdict::Bad(plate::refuse(plate::AUXILIARY_LINE, line)),
-        Amount::Of(n) => {
-            let before = slots[k];
-            if before == 0 {
-                slots[k] = n + 1;
-                return Verdict::Fine;
-            }
-            Verdict::Bad(plate::refuse(plate::TWICE, line))
-        }
-    }
+    slots[k] = Some(n);
+    Ok(())
 }
 
 fn is_space(s: &[u8], at: usize) -> bool
     ensures { result ≡ eqb (get_or s.now at 0) 0x20 }
 {
-    if at < s.len() {
-        return s[at] == 0x20;
-    }
-    false
+    at < s.len() && s[at] == b' '
 }
 
 // The identifier at a place, with the space after it.
-fn label_at(s: &[u8], at: usize) -> Label
+fn label_at(s: &[u8], at: usize) -> Option<Label>
     requires { at < length s.now }
     ensures { result ≡ label_at s.now at }
 {
     let e = mpeg_scan::alnum_end(s, at);
     if at < e {
         if is_space(s, e) {
-            let k = row_of(&s[at..e]);
-            return Label::Names(k, e + 1);
+            let row = row_of(&s[at..e]);
+            return Some(Label { row, value: e + 1 });
         }
     }
-    Label::Broken
+    None
 }
 
 // Past the lines, from a place on, whose identifiers are unknown. So the two functions below take turns once a parameter and not once a line:
@@ -100,131 +78,105 @@ fn skip(s: &[u8], from: usize) -> usize
 {
     let mut at = from;
     while at < s.len() {
-        match label_at(s, at) {
-            Label::Broken => {
-                return at;
-            }
-            Label::Names(k, v) => {
-                if k < 14 {
-                    return at;
-                }
-                let e = mpeg_scan::until(s, v, 0x0A);
-                if s.len() <= e {
-                    return at;
-                }
-                at = e + 1;
-            }
+        let Some(label) = label_at(s, at) else {
+            return at;
+        };
+        if label.row.is_some() {
+            return at;
         }
+        let e = mpeg_scan::until(s, label.value, b'\n');
+        if s.len() <= e {
+            return at;
+        }
+        at = e + 1;
     }
     at
 }
 
 // The lines from an identifier on.
 #[cycle(ident_value)]
-fn ident(s: &[u8], from: usize, slots: &mut [u64; 14]) -> Verdict
+fn ident(s: &[u8], from: usize, slots: &mut Slots) -> Result<(), Refusal>
     requires { from ≤ length s.now }
     ensures { Agrees (judge_lines slots.old (lines_at s.now from)) result slots.new }
 {
     let at = skip(s, from);
-    if at < s.len() {
-        return match label_at(s, at) {
-            Label::Broken => Verdict::Bad(plate::refuse(plate::AUXILIARY_LINE, at)),
-            Label::Names(k, v) => value(s, at, k, v, slots),
-        };
+    if s.len() <= at {
+        return Ok(());
     }
-    Verdict::Fine
+    match label_at(s, at) {
+        Some(label) => value(s, at, label, slots),
+        None => Err(plate::refuse(Fault::AuxiliaryLine, at)),
+    }
 }
 
-// The lines from the value of a row on, in the line that begins at `line`.
+// The lines from the value after a label on, in the line that begins at `line`.
 #[cycle(ident_value)]
-fn value(s: &[u8], line: usize, k: usize, at: usize, slots: &mut [u64; 14]) -> Verdict
-    requires { at ≤ length s.now }
-    ensures { Agrees (judge_lines slots.old (value_then s.now line k at (lines_at s.now))) result slots.new }
+fn value(s: &[u8], line: usize, label: Label, slots: &mut Slots) -> Result<(), Refusal>
+    requires within { label.value ≤ length s.now }
+    requires known { Known label.row }
+    ensures { Agrees (judge_lines slots.old (value_then s.now line label.row label.value (lines_at s.now))) result slots.new }
 {
-    let e = mpeg_scan::until(s, at, 0x0A);
-    if e < s.len() {
-        return match take_line(slots, line, k, &s[at..e]) {
-            Verdict::Bad(r) => Verdict::Bad(r),
-            Verdict::Fine => ident(s, e + 1, slots),
-        };
+    let e = mpeg_scan::until(s, label.value, b'\n');
+    if s.len() <= e {
+        return Err(plate::refuse(Fault::AuxiliaryLine, line));
     }
-    Verdict::Bad(plate::refuse(plate::AUXILIARY_LINE, line))
+    take_line(slots, line, label.row, &s[label.value..e])?;
+    ident(s, e + 1, slots)
 }
 
 // The lines one after another, in one loop. `ident` and `value` judge them in turns, as the paper has it; this takes less stack, for who wants one parameter.
-fn in_order(s: &[u8], slots: &mut [u64; 14]) -> Verdict
+fn in_order(s: &[u8], slots: &mut Slots) -> Result<(), Refusal>
     ensures { Agrees (judge_lines slots.old (lines_at s.now 0)) result slots.new }
 {
     let mut at: usize = 0;
     while at < s.len() {
-        match label_at(s, at) {
-            Label::Broken => {
-                return Verdict::Bad(plate::refuse(plate::AUXILIARY_LINE, at));
-            }
-            Label::Names(k, v) => {
-                let e = mpeg_scan::until(s, v, 0x0A);
-                if s.len() <= e {
-                    return Verdict::Bad(plate::refuse(plate::AUXILIARY_LINE, at));
-                }
-                match take_line(slots, at, k, &s[v..e]) {
-                    Verdict::Bad(r) => {
-                        return Verdict::Bad(r);
-                    }
-                    Verdict::Fine => {}
-                }
-                at = e + 1;
-            }
+        let Some(label) = label_at(s, at) else {
+            return Err(plate::refuse(Fault::AuxiliaryLine, at));
+        };
+        let e = mpeg_scan::until(s, label.value, b'\n');
+        if s.len() <= e {
+            return Err(plate::refuse(Fault::AuxiliaryLine, at));
         }
+        take_line(slots, at, label.row, &s[label.value..e])?;
+        at = e + 1;
     }
-    Verdict::Fine
+    Ok(())
 }
 
-// What slots come to at the end: 27, or every parameter.
-fn answer(slots: &[u64; 14]) -> MpegAnswer
-    ensures { result ≡ parameters_answer slots.now }
+// Whether every parameter is given that must be: else 27.
+fn completed(slots: &Slots) -> Result<(), Refusal>
+    ensures { result ≡ completed slots.now }
 {
     if mpeg_parameter::is_lacking(slots) {
-        return MpegAnswer::Refused(plate::refuse(plate::NOT_GIVEN, 0));
+        return Err(plate::refuse(Fault::NotGiven, 0));
     }
-    MpegAnswer::Given(mpeg_parameter::parameters_of(slots))
+    Ok(())
 }
 
 // The parameters of a text, its closing 00 included.
-pub fn read(v: &[u8]) -> MpegAnswer
+pub fn read(v: &[u8]) -> Result<Parameters, Refusal>
     ensures { result ≡ read_of v.now }
 {
-    if text::is_text(v) {
-        let end = v.len() - 1;
-        let mut slots = [0u64; 14];
-        return match ident(&v[..end], 0, &mut slots) {
-            Verdict::Bad(r) => MpegAnswer::Refused(r),
-            Verdict::Fine => answer(&slots),
-        };
+    if !text::is_text(v) {
+        return Err(plate::refuse(Fault::Text, 0));
     }
-    MpegAnswer::Refused(plate::refuse(plate::TEXT, 0))
-}
-
-// What slots come to at the end, where `ar` alone is wanted.
-fn ratio_in(slots: &[u64; 14]) -> RatioAnswer
-    ensures { result ≡ ratio_of (parameters_answer slots.now) }
-{
-    if mpeg_parameter::is_lacking(slots) {
-        return RatioAnswer::Refused(plate::refuse(plate::NOT_GIVEN, 0));
-    }
-    RatioAnswer::Given(mpeg_parameter::value_of(13, slots[13]))
+    let end = v.len() - 1;
+    let mut slots = [None; 14];
+    ident(&v[..end], 0, &mut slots)?;
+    completed(&slots)?;
+    Ok(mpeg_parameter::parameters_of(&slots))
 }
 
 // The aspect ratio, `ar`, of a text that `read` takes; of any other the same refusal.
-pub fn ratio(v: &[u8]) -> RatioAnswer
+pub fn ratio(v: &[u8]) -> Result<ParameterValue, Refusal>
     ensures { result ≡ ratio_of (read_of v.now) }
 {
-    if text::is_text(v) {
-        let end = v.len() - 1;
-        let mut slots = [0u64; 14];
-        return match in_order(&v[..end], &mut slots) {
-            Verdict::Bad(r) => RatioAnswer::Refused(r),
-            Verdict::Fine => ratio_in(&slots),
-        };
+    if !text::is_text(v) {
+        return Err(plate::refuse(Fault::Text, 0));
     }
-    RatioAnswer::Refused(plate::refuse(plate::TEXT, 0))
+    let end = v.len() - 1;
+    let mut slots = [None; 14];
+    in_order(&v[..end], &mut slots)?;
+    completed(&slots)?;
+    Ok(mpeg_parameter::value_of(13, slots[13]))
 }

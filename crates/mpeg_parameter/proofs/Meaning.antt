@@ -2,6 +2,7 @@
 use Prim.Native.Nat.{ℕ}
 use mathlib.Core.Path.{◌≡◌, refl}
 use mathlib.Core.Bool.{Bool, true, false}
+use Rattle.std.specs.Prelude.{Option}
 use Rattle.plate.specs.Choice.{pick}
 use Rattle.mpeg_parameter.specs.Table.{rate}
 use Rattle.mpeg_parameter.specs.Parameters.{number_of, millionths, value_of_row}
@@ -13,7 +14,7 @@ use Rattle.mpeg_parameter.specs.declared.ParameterValue.TheVariants.{Whole, Rate
 unfoldable pub meant : Row → ℕ → Meaning
 meant r n = pick (rate r) (float (bits_of n)) (number n)
 
-pub value_means : (r : Row) (slot : ℕ) → meaning_of (value_of_row r slot) ≡ meant r (number_of r slot)
+pub value_means : (r : Row) (slot : Option ℕ) → meaning_of (value_of_row r slot) ≡ meant r (number_of r slot)
 unfolding value_of_row meaning_of meant bits_of
 value_means r slot = go (rate r)
   where

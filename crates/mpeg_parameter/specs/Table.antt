@@ -1,5 +1,5 @@
 -- The parameters (RDD 14, Table 7; 01, "MPEG auxiliary text"): one row each.
-use Rattle.std.specs.Prelude.{ℕ, ◌^◌, Bool, true, false, List, [], ◌∷◌, length, get_or, eqb}
+use Rattle.std.specs.Prelude.{ℕ, ◌^◌, Bool, true, false, List, [], ◌∷◌, length, get_or, ltb, eqb, Option, Some, None}
 use Rattle.plate.specs.Choice.{pick}
 use Rattle.number.specs.Number.{be}
 use Rattle.mpeg_scan.specs.Scan.{run}
@@ -7,28 +7,28 @@ use Rattle.mpeg_parameter.specs.declared.Row.{Row}
 
 -- an identifier is given as the number that its bytes are, most significant first: no byte of an identifier is 0, so the number tells the bytes
 abbrev pub name : Row → ℕ
-name r = r.0
+name r = r.name
 
 -- whether it must be given
 abbrev pub required : Row → Bool
-required r = r.1
+required r = r.required
 
 -- whether it is a rate, in millionths, and no whole number
 abbrev pub rate : Row → Bool
-rate r = r.2
+rate r = r.rate
 
 -- the allowed values: from the first to the last
 abbrev pub least : Row → ℕ
-least r = r.3
+least r = r.least
 
 abbrev pub most : Row → ℕ
-most r = r.4
+most r = r.most
 
 abbrev pub whole : ℕ → Bool → ℕ → ℕ → Row
-whole id must first last = record { 0 = id; 1 = must; 2 = false; 3 = first; 4 = last }
+whole id must first last = record { name = id; required = must; rate = false; least = first; most = last }
 
 abbrev pub rated : ℕ → Row
-rated id = record { 0 = id; 1 = true; 2 = true; 3 = 0; 4 = 2 ^ 53 }
+rated id = record { name = id; required = true; rate = true; least = 0; most = 2 ^ 53 }
 
 -- any whole number
 abbrev pub any : ℕ → Row
@@ -73,9 +73,9 @@ row_at k = get_or table k (whole 0 false 0 0)
 unfoldable pub other_row : ℕ → Row → Bool
 other_row id r = pick (eqb (name r) id) false true
 
--- the row of an identifier; 14 where it is unknown
-unfoldable pub row_for : ℕ → ℕ
-row_for id = run (other_row id) table
+-- the row of an identifier, if it is known
+unfoldable pub row_for : ℕ → Option ℕ
+row_for id = pick (ltb (run (other_row id) table) (length table)) (Some (run (other_row id) table)) None
 
-unfoldable pub row_of : List ℕ → ℕ
+unfoldable pub row_of : List ℕ → Option ℕ
 row_of v = row_for (be v 0 (length v))

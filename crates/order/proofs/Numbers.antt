@@ -4,17 +4,19 @@ use mathlib.Core.Path.{◌≡◌, refl}
 use mathlib.Core.Bool.{Bool}
 use native.Mathlib.Omega.{arith}
 use lib.Dec.{eqb}
+use Rattle.std.specs.Prelude.{Result, Ok, Err}
 use Rattle.plate.proofs.Numbers.{either, Among}
 use Rattle.piece.specs.declared.Piece.{Piece}
 use Rattle.order.specs.Order.{misplaced, overdue, unmapped, ending, step_of}
+use Rattle.plate.specs.declared.Refusal.{Refusal}
 use Rattle.order.specs.declared.Progress.{Progress}
 use Rattle.order.specs.declared.Step.{Step}
 use Rattle.order.specs.declared.Step.TheVariants as step
 
-abbrev pub OfStep : Step → Type 0
-OfStep (step.Next p) = Unit {0}
-OfStep (step.Ended n) = Unit {0}
-OfStep (step.Refused r) = Among 18 22 r
+abbrev pub OfStep : Result Step Refusal → Type 0
+OfStep (Ok (step.Next p)) = Unit {0}
+OfStep (Ok (step.Ended n)) = Unit {0}
+OfStep (Err r) = Among 18 22 r
 
 pub step_numbers : (p : Progress) (x : Piece) (at listed : ℕ) (more : Bool) → OfStep (step_of p x at listed more)
 unfolding step_of ending
@@ -25,10 +27,10 @@ step_numbers p x at listed more =
     (either OfStep (eqb x.packet_type 0xFB)
     (either OfStep more (omega arith, omega arith, λ n. refl) (either OfStep p.umf tt (omega arith, omega arith, λ n. refl))) tt)))
 
-abbrev pub StandsAt : ℕ → Step → Type 0
-StandsAt at (step.Next p) = Unit {0}
-StandsAt at (step.Ended n) = Unit {0}
-StandsAt at (step.Refused r) = r.place ≡ at
+abbrev pub StandsAt : ℕ → Result Step Refusal → Type 0
+StandsAt at (Ok (step.Next p)) = Unit {0}
+StandsAt at (Ok (step.Ended n)) = Unit {0}
+StandsAt at (Err r) = r.place ≡ at
 
 pub step_stands : (p : Progress) (x : Piece) (at listed : ℕ) (more : Bool) → StandsAt at (step_of p x at listed more)
 unfolding step_of ending

@@ -1,13 +1,15 @@
 -- The order of packets (RDD 14, clauses 5.1 and 5.2; 01, "Stream, seek, book"): one piece after another, with the type that the latest map lists under a media packet's ID, and whether bytes follow.
-use Rattle.std.specs.Prelude.{ℕ, ◌+◌, Bool, true, false, not, eqb, leb}
+use Rattle.std.specs.Prelude.{ℕ, ◌+◌, Bool, true, false, not, eqb, leb, Result, Ok, Err}
 use Rattle.packet.specs.Packet.{type_eos, type_flt, type_map, type_media, type_umf}
 use Rattle.plate.specs.Choice.{pick}
 use Rattle.plate.specs.Plate.{refusal}
 use Rattle.media_type.specs.MediaType.{known_type}
 use Rattle.piece.specs.declared.Piece.{Piece}
+use Rattle.plate.specs.declared.Refusal.{Refusal}
 use Rattle.order.specs.declared.Progress.{Progress}
 use Rattle.order.specs.declared.Step.{Step}
-use Rattle.order.specs.declared.Step.TheVariants.{Next, Ended, Refused}
+use Rattle.order.specs.declared.Step.TheVariants.{Next, Ended}
+use Rattle.plate.specs.declared.Fault.TheVariants as fault
 
 -- before the first packet
 abbrev pub started : Progress
@@ -44,17 +46,17 @@ progress_after p packet_type =
     }
 
 -- at an EOS: 18 where bytes follow it, 21 where no UMF came before it, else the number of packets
-unfoldable pub ending : Progress → ℕ → Bool → Step
-ending p at more = pick more (Refused (refusal 18 at)) (pick p.umf (Ended (p.count + 1)) (Refused (refusal 21 at)))
+unfoldable pub ending : Progress → ℕ → Bool → Result Step Refusal
+ending p at more = pick more (Err (refusal fault.StreamEnd at)) (pick p.umf (Ok (Ended (p.count + 1))) (Err (refusal fault.NoUmf at)))
 
 -- a packet at a position, of a type and a media type, with the type that the latest map lists under its ID, and whether bytes follow it: 19, 20, 22, then 18 and 21
-abbrev pub step_as : Progress → ℕ → ℕ → ℕ → ℕ → Bool → Step
+abbrev pub step_as : Progress → ℕ → ℕ → ℕ → ℕ → Bool → Result Step Refusal
 step_as p packet_type media_type at listed more =
-    pick (misplaced p.eos_due p.flt packet_type) (Refused (refusal 19 at))
-    (pick (overdue p.since_map packet_type) (Refused (refusal 20 at))
-    (pick (unmapped packet_type media_type listed) (Refused (refusal 22 at))
-    (pick (eqb packet_type type_eos) (ending p at more) (Next (progress_after p packet_type)))))
+    pick (misplaced p.eos_due p.flt packet_type) (Err (refusal fault.LocatorPlace at))
+    (pick (overdue p.since_map packet_type) (Err (refusal fault.MapOverdue at))
+    (pick (unmapped packet_type media_type listed) (Err (refusal fault.Unmapped at))
+    (pick (eqb packet_type type_eos) (ending p at more) (Ok (Next (progress_after p packet_type))))))
 
 -- the same of a piece
-unfoldable pub step_of : Progress → Piece → ℕ → ℕ → Bool → Step
+unfoldable pub step_of : Progress → Piece → ℕ → ℕ → Bool → Result Step Refusal
 step_of p x at listed more = step_as p x.packet_type x.media_type at listed more

@@ -5,15 +5,16 @@ use mathlib.Core.List.{List}
 use native.Mathlib.Omega.{arith}
 use lib.ListN.{length}
 use lib.Dec.{ltb, eqb}
+use Rattle.std.specs.Prelude.{Result, Ok, Err}
 use Rattle.plate.proofs.Numbers.{either, Among}
 use Rattle.number.specs.Number.{be}
 use Rattle.packet.specs.Packet.{sized_at, header_at, if_type, packet_at}
-use Rattle.packet.specs.declared.PacketAnswer.{PacketAnswer}
-use Rattle.packet.specs.declared.PacketAnswer.TheVariants.{Whole, Refused}
+use Rattle.packet.specs.declared.Packet.{Packet}
+use Rattle.plate.specs.declared.Refusal.{Refusal}
 
-abbrev pub OfHeader : ℕ → PacketAnswer → Type 0
-OfHeader hi (Whole p) = Unit {0}
-OfHeader hi (Refused r) = Among 1 hi r
+abbrev pub OfHeader : ℕ → Result Packet Refusal → Type 0
+OfHeader hi (Ok p) = Unit {0}
+OfHeader hi (Err r) = Among 1 hi r
 
 pub header_numbers : (s : List ℕ) (at : ℕ) → OfHeader 5 (header_at s at)
 unfolding header_at sized_at
@@ -30,6 +31,6 @@ pub packet_numbers : (s : List ℕ) (at packet_type : ℕ) → OfHeader 6 (packe
 unfolding packet_at
 packet_numbers s at packet_type = go (header_at s at) (header_numbers s at)
   where
-    go : (a : PacketAnswer) → OfHeader 5 a → OfHeader 6 (if_type at packet_type a)
-    go (Refused r) h = (h.0, omega (arith, h.1), h.2)
-    go (Whole p) h = either (OfHeader 6) (eqb p.packet_type packet_type) tt (omega arith, omega arith, λ n. refl)
+    go : (a : Result Packet Refusal) → OfHeader 5 a → OfHeader 6 (if_type at packet_type a)
+    go (Err r) h = (h.0, omega (arith, h.1), h.2)
+    go (Ok p) h = either (OfHeader 6) (eqb p.packet_type packet_type) tt (omega arith, omega arith, λ n. refl)

@@ -10,11 +10,11 @@ use borrow.Author.Tests.{ltb-false}
 use borrow.Rule.Slice.PartMut.{put_mid}
 use lib.ListN.{length, take, drop, length-append, length-drop, drop_of_length-le, get_or-append}
 use lib.Seq.{sets, length-take-le, take_at, drop_at, sets-eq, drop-drop, take_all, take-append_seam}
+use Rattle.std.specs.Prelude.{Ok}
 use Rattle.number.specs.Number.{be, be_bytes}
 use Rattle.number.proofs.Laws.{be-take}
 use Rattle.packet.specs.Packet.{header_at}
 use Rattle.packet.specs.declared.Packet.{Packet}
-use Rattle.packet.specs.declared.PacketAnswer.TheVariants.{Whole}
 use Rattle.packet.proofs.Edge.{anywhere}
 use Rattle.packet.proofs.Laws.{accepts, whole}
 use Rattle.packet_writer.specs.Write.{header_of, over}
@@ -36,14 +36,14 @@ part_over l vs at h =
     (simp (zero-add, drop-drop, append_assoc))
 
 -- what stands behind a packet changes nothing of what its header says
-pub header_before : (p s : List ℕ) (w : Packet) → header_at p 0 ≡ Whole w → header_at (p ++ s) 0 ≡ Whole w
+pub header_before : (p s : List ℕ) (w : Packet) → header_at p 0 ≡ Ok w → header_at (p ++ s) 0 ≡ Ok w
 header_before p s w e =
     let g = whole p 0 w e in
     let number : (k n : ℕ) → k + n ≤ length p → be (p ++ s) k n ≡ be p k n = λ k n h. sym (be-take (length p) (p ++ s) k n h) ∙ rw (take-append_seam p s) in
     let small = g.least in
     let inside = g.within in
     accepts (p ++ s) 0 w.len (number 0 5 (omega arith) ∙ g.leader) (number 14 2 (omega arith) ∙ g.trailer) (number 6 4 (omega arith) ∙ sym g.lens) g.least g.fours (omega (arith, length-append p s))
-    ∙ ap (λ (k : ℕ). Whole (record { packet_type = k; len = w.len })) (get_or-append p s 0 5 (omega arith) ∙ sym g.kinds)
+    ∙ ap (λ (k : ℕ). Ok (record { packet_type = k; len = w.len })) (get_or-append p s 0 5 (omega arith) ∙ sym g.kinds)
 
 -- bytes written over others: they stand at the place, and all else is as it was
 pub record Framed (out : List ℕ) (at : ℕ) (bytes now : List ℕ) : Type 0 where
@@ -76,5 +76,5 @@ module _ (out : List ℕ) (at : ℕ) (p : List ℕ) (h : at + length p ≤ lengt
       }
 
   -- a packet whose header is read in front of anything is read at its place
-  pub header_stands : (w : Packet) → ((s : List ℕ) → header_at (p ++ s) 0 ≡ Whole w) → header_at (over out at p) at ≡ Whole w
+  pub header_stands : (w : Packet) → ((s : List ℕ) → header_at (p ++ s) 0 ≡ Ok w) → header_at (over out at p) at ≡ Ok w
   header_stands w e = rw three (rw in_front_lem at (anywhere q (p ++ r) w (e r)))

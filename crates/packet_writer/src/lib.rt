@@ -1,4 +1,4 @@
-// What the writers share: their answer, a packet's header, and the room at a place of the caller's outgoing buffer.
+// What the writers share: a packet's header, and the room at a place of the caller's outgoing buffer.
 // `put_header` asks for its sixteen bytes: it serves the writers, whose own functions take every input.
 #![tactic(auto)]
 
@@ -6,23 +6,11 @@ ghost use Rattle.std.specs.Prelude.{◌≡◌, ◌-◌, ◌≤◌, length, ltb};
 ghost use Rattle.std.proofs.lemmas.List.Edits.{sets};
 ghost use Rattle.packet_writer.specs.Write.{header_of};
 
-use plate::Refusal;
-
-// The length of the packet written, or the refusal.
-#[derive(Clone, Copy)]
-pub enum WriteAnswer {
-    Length(usize),
-    Refused(Refusal),
-}
-
 // Whether a buffer of a size has fewer bytes from a place on than a packet takes; beyond its end it has none.
 pub fn lacks_room(size: usize, at: usize, len: usize) -> bool
     ensures { result ≡ ltb (size - at) len }
 {
-    if size < at {
-        return 0 < len;
-    }
-    size - at < len
+    size.saturating_sub(at) < len
 }
 
 // Writes a packet header at the start of some bytes.

@@ -2,53 +2,53 @@
 use Prim.Native.Nat.{ℕ}
 use mathlib.Core.Path.{◌≡◌, refl, sym, ◌∙◌, ap}
 use mathlib.Core.List.{List, []}
+use Rattle.std.specs.Prelude.{Result}
 use Rattle.packet.specs.Packet.{header_at, packet_at}
-use Rattle.packet.specs.declared.PacketAnswer.{PacketAnswer}
 use Rattle.walker.specs.Walk.{walk_of}
 use Rattle.walker.specs.declared.Stop.{Stop}
+use Rattle.map.specs.declared.MapSays.{MapSays}
+use Rattle.map_answer.specs.declared.Track.{Track}
+use Rattle.packet.specs.declared.Packet.{Packet}
+use Rattle.plate.specs.declared.Refusal.{Refusal}
 use Rattle.map.specs.Map.{map_at, track_at}
-use Rattle.map.specs.declared.MapAnswer.{MapAnswer}
-use Rattle.map.specs.declared.TrackAnswer.{TrackAnswer}
 use Rattle.book_builder.specs.BookBuilder.{build_answer, built_in}
-use Rattle.book_builder.specs.declared.BuildAnswer.{BuildAnswer}
-use Rattle.packet_writer.specs.declared.WriteAnswer.{WriteAnswer}
 use Rattle.map_writer.specs.Write.{map_written_answer, map_written_in}
 use Rattle.locator_writer.specs.Write.{locator_answer, locator_written_in}
 use Rattle.map_name.specs.Name.{name_at, name_bytes, place_in, name_of_two_at, two_bytes, place_of_two}
 use Rattle.paper_readings.specs.Calls.{Headers, OfType, Walks, ReadsMap, ReadsTrack, BuildsInto, WritesMap, WritesLocator, HandsOut, HandsOutOfTwo}
 use Rattle.paper_readings.proofs.Given.{lent, lent_out}
 
-pub header_is : (s : List ℕ) (at : ℕ) (x : PacketAnswer) → Headers s at x → x ≡ header_at s at
+pub header_is : (s : List ℕ) (at : ℕ) (x : Result Packet Refusal) → Headers s at x → x ≡ header_at s at
 header_is s at x g = sym g.it ∙ g.post ∙ rw (g.on.0, g.on.1)
 
-pub of_type_is : (s : List ℕ) (at type : ℕ) (x : PacketAnswer) → OfType s at type x → x ≡ packet_at s at type
+pub of_type_is : (s : List ℕ) (at type : ℕ) (x : Result Packet Refusal) → OfType s at type x → x ≡ packet_at s at type
 of_type_is s at type x g = sym g.it ∙ g.post ∙ rw (g.on.0, g.on.1, g.on.2)
 
 pub walk_is : (s : List ℕ) (at n : ℕ) (x : Stop) → Walks s at n x → x ≡ walk_of s at n
 walk_is s at n x g = sym g.it ∙ g.post ∙ rw (g.on.0, g.on.1, g.on.2)
 
-pub map_is : (s : List ℕ) (at : ℕ) (x : MapAnswer) → ReadsMap s at x → x ≡ map_at s at
+pub map_is : (s : List ℕ) (at : ℕ) (x : Result MapSays Refusal) → ReadsMap s at x → x ≡ map_at s at
 map_is s at x g = sym g.it ∙ g.post ∙ rw (g.on.0, g.on.1)
 
-pub track_is : (s : List ℕ) (at k : ℕ) (x : TrackAnswer) → ReadsTrack s at k x → x ≡ track_at s at k
+pub track_is : (s : List ℕ) (at k : ℕ) (x : Result Track Refusal) → ReadsTrack s at k x → x ≡ track_at s at k
 track_is s at k x g = sym g.it ∙ g.post ∙ rw (g.on.0, g.on.1, g.on.2)
 
-pub built_is : (l s : List ℕ) (x : BuildAnswer) (o : List ℕ) → BuildsInto l s x o → (x ≡ build_answer l s) × (o ≡ built_in l s)
+pub built_is : (l s : List ℕ) (x : Result ℕ Refusal) (o : List ℕ) → BuildsInto l s x o → (x ≡ build_answer l s) × (o ≡ built_in l s)
 built_is l s x o g =
-    (sym (ap (λ (p : BuildAnswer × List ℕ). p.0) g.it) ∙ g.post.0 ∙ rw (g.on.0, g.on.1), sym (ap (λ (p : BuildAnswer × List ℕ). p.1) g.it) ∙ g.post.1 ∙ rw (g.on.0, g.on.1))
+    (sym (ap (λ (p : (Result ℕ Refusal) × List ℕ). p.0) g.it) ∙ g.post.0 ∙ rw (g.on.0, g.on.1), sym (ap (λ (p : (Result ℕ Refusal) × List ℕ). p.1) g.it) ∙ g.post.1 ∙ rw (g.on.0, g.on.1))
 
-pub map_written_is : (out : List ℕ) (at : ℕ) (text ms ts : List ℕ) (x : WriteAnswer) (o : List ℕ) → WritesMap out at text ms ts x o
+pub map_written_is : (out : List ℕ) (at : ℕ) (text ms ts : List ℕ) (x : Result ℕ Refusal) (o : List ℕ) → WritesMap out at text ms ts x o
     → (x ≡ map_written_answer out at text ms ts) × (o ≡ map_written_in out at text ms ts)
 map_written_is out at text ms ts x o g = (
-  sym (ap (λ (p : WriteAnswer × List ℕ). p.0) g.it) ∙ g.post.0 ∙ rw (g.on.0, g.on.1, g.on.2, g.on.3, g.on.4),
-  sym (ap (λ (p : WriteAnswer × List ℕ). p.1) g.it) ∙ g.post.1 ∙ rw (g.on.0, g.on.1, g.on.2, g.on.3, g.on.4),
+  sym (ap (λ (p : (Result ℕ Refusal) × List ℕ). p.0) g.it) ∙ g.post.0 ∙ rw (g.on.0, g.on.1, g.on.2, g.on.3, g.on.4),
+  sym (ap (λ (p : (Result ℕ Refusal) × List ℕ). p.1) g.it) ∙ g.post.1 ∙ rw (g.on.0, g.on.1, g.on.2, g.on.3, g.on.4),
 )
 
-pub locator_written_is : (out : List ℕ) (at step : ℕ) (ns : List ℕ) (x : WriteAnswer) (o : List ℕ) → WritesLocator out at step ns x o
+pub locator_written_is : (out : List ℕ) (at step : ℕ) (ns : List ℕ) (x : Result ℕ Refusal) (o : List ℕ) → WritesLocator out at step ns x o
     → (x ≡ locator_answer out at step ns) × (o ≡ locator_written_in out at step ns)
 locator_written_is out at step ns x o g = (
-  sym (ap (λ (p : WriteAnswer × List ℕ). p.0) g.it) ∙ g.post.0 ∙ rw (g.on.0, g.on.1, g.on.2, g.on.3),
-  sym (ap (λ (p : WriteAnswer × List ℕ). p.1) g.it) ∙ g.post.1 ∙ rw (g.on.0, g.on.1, g.on.2, g.on.3),
+  sym (ap (λ (p : (Result ℕ Refusal) × List ℕ). p.0) g.it) ∙ g.post.0 ∙ rw (g.on.0, g.on.1, g.on.2, g.on.3),
+  sym (ap (λ (p : (Result ℕ Refusal) × List ℕ). p.1) g.it) ∙ g.post.1 ∙ rw (g.on.0, g.on.1, g.on.2, g.on.3),
 )
 
 pub handed_is : (s : List ℕ) (at : ℕ × ℕ) (id : ℕ) (v : List ℕ) (q : ℕ × ℕ) → HandsOut s at id v q → (v ≡ name_bytes s (name_at s id)) × (q ≡ place_in at (name_at s id))

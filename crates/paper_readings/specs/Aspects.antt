@@ -1,41 +1,35 @@
 -- Readings of the aspect in a track's record (02, §11; RDD 14, Tables 7, 8 and 9), of whole maps; three are of texts alone, three of what the writer says, two of bytes. Proved in proofs/Aspects.antt.
-use Rattle.std.specs.Prelude.{ℕ, suc, List, [], ◌∷◌, ◌++◌, map as each, length, take, drop, replicate}
+use Rattle.std.specs.Prelude.{ℕ, suc, List, [], ◌∷◌, ◌++◌, map as each, length, take, drop, replicate, Option, Some, None, Result, Ok, Err}
 use Rattle.plate.specs.Plate.{refusal}
 use Rattle.mpeg.specs.Meaning.{Number, none, is}
 use Rattle.mpeg.specs.Read.{read_of}
-use Rattle.mpeg.specs.declared.MpegAnswer.{MpegAnswer}
-use Rattle.mpeg.specs.declared.MpegAnswer.TheVariants as mpeg-answer
 use Rattle.map_items.specs.Items.{Item}
 use Rattle.map_aspect.specs.Meaning.{number_of}
 use Rattle.map_aspect.specs.declared.Aspect.{Aspect}
 use Rattle.map_aspect.specs.declared.Aspect.TheVariants.{FourByThree, SixteenByNine, Unknown}
 use Rattle.map_tracks.specs.Tracks as tracks
-use Rattle.map_tracks.specs.declared.Kth.{Kth}
-use Rattle.map_tracks.specs.declared.Kth.TheVariants as kth
 use Rattle.map.specs.Map as map
-use Rattle.map.specs.declared.TrackAnswer.{TrackAnswer}
-use Rattle.map.specs.declared.TrackAnswer.TheVariants as track-answer
 use Rattle.map_records.specs.Fill as fill
-use Rattle.map_items.specs.declared.Part.TheVariants as part
 use Rattle.map_answer.specs.declared.Track.{Track}
 use Rattle.map_answer.specs.declared.Code.TheVariants as code
-use Rattle.map_answer.specs.declared.Value.TheVariants as value
+use Rattle.mpeg_parameter.specs.declared.Parameters.{Parameters}
+use Rattle.plate.specs.declared.Refusal.{Refusal}
 use Rattle.map_newer.specs.Strike.{strike, in_track, set_in}
-use Rattle.packet_writer.specs.declared.WriteAnswer.{WriteAnswer}
-use Rattle.packet_writer.specs.declared.WriteAnswer.TheVariants as write-answer
 use Rattle.map_writer.specs.Write as writer
 use Rattle.map_writer.proofs.Worked.{absent, at, material}
 use Rattle.paper_readings.specs.Table.{Reading}
 use Rattle.paper_readings.specs.Forms.{tracked, track, with, name, null, formed}
+use Rattle.plate.specs.declared.Fault.{Fault}
+use Rattle.plate.specs.declared.Fault.TheVariants as fault
 
 -- a record's aspect by the paper's number; where there is no record 2, which no aspect is
-abbrev number_in : TrackAnswer → Number
-number_in (track-answer.Record t) = number_of t.aspect
-number_in (track-answer.Refused r) = is 2
+abbrev number_in : Result Track Refusal → Number
+number_in (Ok t) = number_of t.aspect
+number_in (Err r) = is 2
 
-abbrev number_found : Kth → Number
-number_found (kth.Record t) = number_of t.aspect
-number_found kth.Nothing = is 2
+abbrev number_found : Option Track → Number
+number_found (Some t) = number_of t.aspect
+number_found None = is 2
 
 abbrev by_number : List ℕ → ℕ → ℕ → Number → Reading
 by_number s at k n = record { Answer = Number; gives = number_in (map.track_at s at k); says = n }
@@ -48,9 +42,9 @@ abbrev aspect : List ℕ → Number → Reading
 aspect s n = by_number s 0 0 n
 
 -- by its case; where there is no record there is no case, which no reading here says
-abbrev case_in : TrackAnswer → List Aspect
-case_in (track-answer.Record t) = t.aspect ∷ []
-case_in (track-answer.Refused r) = []
+abbrev case_in : Result Track Refusal → List Aspect
+case_in (Ok t) = t.aspect ∷ []
+case_in (Err r) = []
 
 abbrev shows : List ℕ → Aspect → Reading
 shows s a = record { Answer = List Aspect; gives = case_in (map.track_at s 0 0); says = a ∷ [] }
@@ -64,10 +58,10 @@ before =
       rate = code.Absent;
       lines = code.Absent;
       fields = code.Absent;
-      version = value.Absent;
-      name = part.Absent;
-      aux = part.Absent;
-      mpeg = part.Absent;
+      version = None;
+      name = None;
+      aux = None;
+      mpeg = None;
       aspect = SixteenByNine;
     }
 
@@ -81,7 +75,7 @@ lent s ns =
 
 -- what the map writer says of a lent text and one track's words, in a buffer of 200 bytes; and the first record of the packet that it puts there
 abbrev writes : List ℕ → List ℕ → ℕ → Reading
-writes text ts n = record { Answer = WriteAnswer; gives = writer.map_written_answer (replicate 200 7) 0 text (material 0) ts; says = write-answer.Length n }
+writes text ts n = record { Answer = (Result ℕ Refusal); gives = writer.map_written_answer (replicate 200 7) 0 text (material 0) ts; says = Ok n }
 
 abbrev written : List ℕ → List ℕ → Number → Reading
 written text ts n = by_number (writer.map_packet text (material 0) ts) 0 0 n
@@ -102,8 +96,8 @@ abbrev text : List ℕ → List ℕ
 text lines = 0x4F ∷ suc (length lines) ∷ (lines ++ (0 ∷ []))
 
 -- what the auxiliary reader refuses a text of lines with
-abbrev reads : List ℕ → ℕ → ℕ → Reading
-reads lines n p = record { Answer = MpegAnswer; gives = read_of (lines ++ (0 ∷ [])); says = mpeg-answer.Refused (refusal n p) }
+abbrev reads : List ℕ → Fault → ℕ → Reading
+reads lines f p = record { Answer = (Result Parameters Refusal); gives = read_of (lines ++ (0 ∷ [])); says = Err (refusal f p) }
 
 -- every parameter that must be given, 72 bytes: Ver 1, Br 0.5, Ipg 1, Ppi 4, Bpiop 2, Pix 0, Cf 1, Cg 0, Sl 7, nl16 36, Vi 1, f1 1
 abbrev parameters : List ℕ
@@ -267,9 +261,9 @@ aspects =
     ∷ aspect (with 0x8B (name ++ text (parameters ++ cbpg))) (is 0)
     ∷ aspect (with 0x8B (name ++ text (parameters ++ capitals))) (is 0)
     -- what the auxiliary reader says of texts that it refuses: 26 at the line, 10 at the second line, 27
-    ∷ reads (parameters ++ take 4 (ar 0x31)) 26 72
-    ∷ reads (parameters ++ ar 0x31 ++ ar 0x31) 10 77
-    ∷ reads (drop 6 parameters ++ ar 0x31) 27 0
+    ∷ reads (parameters ++ take 4 (ar 0x31)) fault.AuxiliaryLine 72
+    ∷ reads (parameters ++ ar 0x31 ++ ar 0x31) fault.Twice 77
+    ∷ reads (drop 6 parameters ++ ar 0x31) fault.NotGiven 0
     -- so they are unknown, and so are `ar` twice with other values, a `Vi` outside its list, and a text without a line
     ∷ aspect (with 0x8B (name ++ text (parameters ++ ar 0x31 ++ ar 0x31))) none
     ∷ aspect (with 0x8B (name ++ text (parameters ++ ar 0x37 ++ ar 0x31))) none

@@ -1,24 +1,19 @@
 -- Readings of the wrong auxiliary form (02, §12): maps with one, and what is given to the writer with one; where 29 is given and where not, and its place in the order. Proved in proofs/Forms.antt.
-use Rattle.std.specs.Prelude.{ℕ, ◌+◌, ◌-◌, ◌%◌, List, [], ◌∷◌, ◌++◌, length, replicate}
+use Rattle.std.specs.Prelude.{ℕ, ◌+◌, ◌-◌, ◌%◌, List, [], ◌∷◌, ◌++◌, length, replicate, Some, None, Result, Ok, Err}
 use Rattle.plate.specs.Plate.{refusal}
-use Rattle.map_items.specs.declared.Part.TheVariants as part
 use Rattle.map_aspect.specs.declared.Aspect.TheVariants as aspect
-use Rattle.map_answer.specs.declared.Value.TheVariants as value
 use Rattle.map_answer.specs.declared.Code.TheVariants as code
 use Rattle.map.specs.Map as map
-use Rattle.map.specs.declared.MapAnswer.{MapAnswer}
-use Rattle.map.specs.declared.MapAnswer.TheVariants as map-answer
-use Rattle.map.specs.declared.TrackAnswer.{TrackAnswer}
-use Rattle.map.specs.declared.TrackAnswer.TheVariants as track-answer
 use Rattle.map.proofs.Samples.{headed, M, saying, rate_item}
 use Rattle.map_name.specs.Name as names
-use Rattle.map_name.specs.declared.NameAnswer.{NameAnswer}
-use Rattle.map_name.specs.declared.NameAnswer.TheVariants as name-answer
-use Rattle.map_name.specs.declared.TwoAnswer.{TwoAnswer}
-use Rattle.map_name.specs.declared.TwoAnswer.TheVariants as two-answer
+use Rattle.map_name.specs.declared.OfTwo.{OfTwo}
+use Rattle.map.specs.declared.MapSays.{MapSays}
+use Rattle.map_answer.specs.declared.Track.{Track}
+use Rattle.map_items.specs.declared.Part.{Part}
+use Rattle.plate.specs.declared.Refusal.{Refusal}
+use Rattle.plate.specs.declared.Fault.{Fault}
+use Rattle.plate.specs.declared.Fault.TheVariants as fault
 use Rattle.packet_writer.specs.Write.{refused}
-use Rattle.packet_writer.specs.declared.WriteAnswer.{WriteAnswer}
-use Rattle.packet_writer.specs.declared.WriteAnswer.TheVariants as write-answer
 use Rattle.map_writer.specs.Write as writer
 use Rattle.map_writer.proofs.Worked.{absent, at, material, track as track_given, text}
 use Rattle.paper_readings.specs.Table.{Reading}
@@ -53,41 +48,41 @@ mpeg = 0x4F ∷ 2 ∷ 0x41 ∷ 0 ∷ []
 abbrev aux : List ℕ
 aux = 0x4D ∷ 8 ∷ replicate 8 7
 
-abbrev gives : List ℕ → MapAnswer → Reading
-gives s a = record { Answer = MapAnswer; gives = map.map_at s 0; says = a }
+abbrev gives : List ℕ → Result MapSays Refusal → Reading
+gives s a = record { Answer = (Result MapSays Refusal); gives = map.map_at s 0; says = a }
 
 abbrev wrong : List ℕ → ℕ → Reading
-wrong s p = gives s (map-answer.Refused (refusal 29 p))
+wrong s p = gives s (Err (refusal fault.WrongForm p))
 
-abbrev other : List ℕ → ℕ → ℕ → Reading
-other s n p = gives s (map-answer.Refused (refusal n p))
+abbrev other : List ℕ → Fault → ℕ → Reading
+other s f p = gives s (Err (refusal f p))
 
 -- accepted, with so many listed tracks
 abbrev listing : List ℕ → ℕ → Reading
-listing s n = gives s (map-answer.Says (saying n (value.Is 0)))
+listing s n = gives s (Ok (saying n (Some 0)))
 
 -- the name of track 1 in an opening and a closing map
 abbrev named : List ℕ → List ℕ → ℕ → Reading
-named opening closing p = record { Answer = TwoAnswer; gives = names.name_of_two_at opening closing 1; says = two-answer.Refused (refusal 29 p) }
+named opening closing p = record { Answer = (Result OfTwo Refusal); gives = names.name_of_two_at opening closing 1; says = Err (refusal fault.WrongForm p) }
 
 -- the record of track 1, of a type, with a null name at a place: neither a 4D nor a 4F is shown, and no aspect
 abbrev hidden : List ℕ → ℕ → ℕ → Reading
 hidden s media_type at =
     record {
-      Answer = TrackAnswer;
+      Answer = (Result Track Refusal);
       gives = map.track_at s 0 0;
       says =
-          track-answer.Record
+          Ok
           (record {
             id = 1;
             media_type = media_type;
             rate = code.NotAvailable;
             lines = code.Absent;
             fields = code.Absent;
-            version = value.Absent;
-            name = part.At at 1;
-            aux = part.Absent;
-            mpeg = part.Absent;
+            version = None;
+            name = Some (record { at = at; len = 1 });
+            aux = None;
+            mpeg = None;
             aspect = aspect.Unknown;
           });
     }
@@ -99,9 +94,9 @@ forms =
     ∷ record { Answer = ℕ; gives = length (with 0x8A (name ++ rate ++ mpeg)); says = 48 }
     -- that is 29 at 43, counted from the packet's start, at 60 of the lent bytes too; the record of its track is refused so, and a name, of one map and of two, the opening one first
     ∷ wrong (with 0x8A (name ++ rate ++ mpeg)) 43
-    ∷ record { Answer = MapAnswer; gives = map.map_at (replicate 60 7 ++ with 0x8A (name ++ rate ++ mpeg)) 60; says = map-answer.Refused (refusal 29 43) }
-    ∷ record { Answer = TrackAnswer; gives = map.track_at (with 0x8A (name ++ rate ++ mpeg)) 0 0; says = track-answer.Refused (refusal 29 43) }
-    ∷ record { Answer = NameAnswer; gives = names.name_at (with 0x8A (name ++ rate ++ mpeg)) 1; says = name-answer.Refused (refusal 29 43) }
+    ∷ record { Answer = (Result MapSays Refusal); gives = map.map_at (replicate 60 7 ++ with 0x8A (name ++ rate ++ mpeg)) 60; says = Err (refusal fault.WrongForm 43) }
+    ∷ record { Answer = (Result Track Refusal); gives = map.track_at (with 0x8A (name ++ rate ++ mpeg)) 0 0; says = Err (refusal fault.WrongForm 43) }
+    ∷ record { Answer = (Result Part Refusal); gives = names.name_at (with 0x8A (name ++ rate ++ mpeg)) 1; says = Err (refusal fault.WrongForm 43) }
     ∷ named (with 0x8A (name ++ rate ++ mpeg)) (with 0x8B aux) 43
     ∷ named (with 0x8A name) (with 0x8B aux) 32
     -- with a null name, before it and behind it: accepted, and the 4F is not shown; nor is the 4D of an MPEG track
@@ -119,7 +114,7 @@ forms =
     -- on type 19, which is reserved, either form is accepted, and the track is not listed; both of them are 10 there too
     ∷ listing (with 0x93 (name ++ rate ++ mpeg)) 0
     ∷ listing (with 0x93 (name ++ rate ++ aux)) 0
-    ∷ other (with 0x93 (mpeg ++ aux)) 10 36
+    ∷ other (with 0x93 (mpeg ++ aux)) fault.Twice 36
     -- types 11, 12, 20, 22 and 23 with a 4D, and with a 4F
     ∷ wrong (with 0x8B (name ++ rate ++ aux)) 43
     ∷ wrong (with 0x8C (name ++ rate ++ aux)) 43
@@ -142,11 +137,11 @@ forms =
     -- a lone 00 in the 4F is no null name
     ∷ wrong (with 0x8A (name ++ (0x4F ∷ 1 ∷ 0 ∷ []))) 37
     -- in the same track 8 of a later item goes before it, and so do 9, 11 and 10
-    ∷ other (with 0x8A (mpeg ++ (0x50 ∷ 4 ∷ 0xFF ∷ []))) 8 36
-    ∷ other (with 0x8A (mpeg ++ (0x50 ∷ 3 ∷ 0 ∷ 0 ∷ 0 ∷ []))) 9 36
-    ∷ other (with 0x8A (mpeg ++ (0x4C ∷ 1 ∷ 0x41 ∷ []))) 11 36
-    ∷ other (with 0x8A (mpeg ++ aux)) 10 36
-    ∷ other (with 0x8B (aux ++ mpeg)) 10 42
+    ∷ other (with 0x8A (mpeg ++ (0x50 ∷ 4 ∷ 0xFF ∷ []))) fault.Overhang 36
+    ∷ other (with 0x8A (mpeg ++ (0x50 ∷ 3 ∷ 0 ∷ 0 ∷ 0 ∷ []))) fault.ItemSize 36
+    ∷ other (with 0x8A (mpeg ++ (0x4C ∷ 1 ∷ 0x41 ∷ []))) fault.Text 36
+    ∷ other (with 0x8A (mpeg ++ aux)) fault.Twice 36
+    ∷ other (with 0x8B (aux ++ mpeg)) fault.Twice 42
     -- it goes before the next header: one cut short, a type byte under 80, an ID byte under C0, items that pass the section, the same ID again
     ∷ wrong (tracked (track 0x8A 0xC1 mpeg ++ (0x8A ∷ 0xC2 ∷ []))) 32
     ∷ wrong (tracked (track 0x8A 0xC1 mpeg ++ (0x05 ∷ 0xC2 ∷ 0 ∷ 0 ∷ []))) 32
@@ -158,8 +153,8 @@ forms =
     ∷ []
 
 -- what the map writer says of a lent text and tracks, in a buffer of so many bytes
-abbrev writing : ℕ → List ℕ → List ℕ → WriteAnswer → Reading
-writing n lent ts a = record { Answer = WriteAnswer; gives = writer.map_written_answer (replicate n 7) 0 lent (material 0) ts; says = a }
+abbrev writing : ℕ → List ℕ → List ℕ → Result ℕ Refusal → Reading
+writing n lent ts a = record { Answer = (Result ℕ Refusal); gives = writer.map_written_answer (replicate n 7) 0 lent (material 0) ts; says = a }
 
 -- a track without a name, with slots for a 4D and a 4F
 abbrev pub formed : ℕ → ℕ → List ℕ → List ℕ → List ℕ
@@ -172,23 +167,23 @@ eight = replicate 8 1
 unfoldable pub given : List Reading
 given =
     -- a 4F on types 10, 21 and 24, a 4D on 11 and 23: 29 without room, and on 10 with it; with the right one the room alone lacks, and with 40 bytes it is written
-    writing 0 text (formed 10 1 absent (at 0 2)) (refused 29)
-    ∷ writing 100 text (formed 10 1 absent (at 0 2)) (refused 29)
-    ∷ writing 0 text (formed 21 1 absent (at 0 2)) (refused 29)
-    ∷ writing 0 text (formed 24 1 absent (at 0 2)) (refused 29)
-    ∷ writing 0 eight (formed 11 1 (at 0 8) absent) (refused 29)
-    ∷ writing 0 eight (formed 23 1 (at 0 8) absent) (refused 29)
-    ∷ writing 0 text (formed 20 1 absent (at 0 2)) (refused 13)
-    ∷ writing 40 text (formed 20 1 absent (at 0 2)) (write-answer.Length 40)
-    ∷ writing 0 eight (formed 13 1 (at 0 8) absent) (refused 13)
+    writing 0 text (formed 10 1 absent (at 0 2)) (refused fault.WrongForm)
+    ∷ writing 100 text (formed 10 1 absent (at 0 2)) (refused fault.WrongForm)
+    ∷ writing 0 text (formed 21 1 absent (at 0 2)) (refused fault.WrongForm)
+    ∷ writing 0 text (formed 24 1 absent (at 0 2)) (refused fault.WrongForm)
+    ∷ writing 0 eight (formed 11 1 (at 0 8) absent) (refused fault.WrongForm)
+    ∷ writing 0 eight (formed 23 1 (at 0 8) absent) (refused fault.WrongForm)
+    ∷ writing 0 text (formed 20 1 absent (at 0 2)) (refused fault.Room)
+    ∷ writing 40 text (formed 20 1 absent (at 0 2)) (Ok 40)
+    ∷ writing 0 eight (formed 13 1 (at 0 8) absent) (refused fault.Room)
     -- 24, 11 and 10 of a later track go before it; and 29 of a later one before 13
-    ∷ writing 0 text (formed 10 1 absent (at 0 2) ++ track_given 5 2 absent absent) (refused 24)
-    ∷ writing 0 (0x41 ∷ 0x80 ∷ []) (formed 10 1 absent (at 0 1) ++ track_given 10 2 (at 0 2) absent) (refused 11)
-    ∷ writing 0 text (formed 10 1 absent (at 0 2) ++ track_given 10 1 absent absent) (refused 10)
-    ∷ writing 0 text (track_given 10 1 absent absent ++ formed 10 2 absent (at 0 2)) (refused 29)
+    ∷ writing 0 text (formed 10 1 absent (at 0 2) ++ track_given 5 2 absent absent) (refused fault.Barred)
+    ∷ writing 0 (0x41 ∷ 0x80 ∷ []) (formed 10 1 absent (at 0 1) ++ track_given 10 2 (at 0 2) absent) (refused fault.Text)
+    ∷ writing 0 text (formed 10 1 absent (at 0 2) ++ track_given 10 1 absent absent) (refused fault.Twice)
+    ∷ writing 0 text (track_given 10 1 absent absent ++ formed 10 2 absent (at 0 2)) (refused fault.WrongForm)
     -- beside a null name either form is 24 on either type
-    ∷ writing 0 text ((10 ∷ 1 ∷ []) ++ at 0 0 ++ absent ++ absent ++ at 0 2 ++ replicate 9 0) (refused 24)
-    ∷ writing 0 text ((11 ∷ 1 ∷ []) ++ at 0 0 ++ absent ++ absent ++ at 0 2 ++ replicate 9 0) (refused 24)
-    ∷ writing 0 eight ((10 ∷ 1 ∷ []) ++ at 0 0 ++ at 0 8 ++ replicate 15 0) (refused 24)
-    ∷ writing 0 eight ((11 ∷ 1 ∷ []) ++ at 0 0 ++ at 0 8 ++ replicate 15 0) (refused 24)
+    ∷ writing 0 text ((10 ∷ 1 ∷ []) ++ at 0 0 ++ absent ++ absent ++ at 0 2 ++ replicate 9 0) (refused fault.Barred)
+    ∷ writing 0 text ((11 ∷ 1 ∷ []) ++ at 0 0 ++ absent ++ absent ++ at 0 2 ++ replicate 9 0) (refused fault.Barred)
+    ∷ writing 0 eight ((10 ∷ 1 ∷ []) ++ at 0 0 ++ at 0 8 ++ replicate 15 0) (refused fault.Barred)
+    ∷ writing 0 eight ((11 ∷ 1 ∷ []) ++ at 0 0 ++ at 0 8 ++ replicate 15 0) (refused fault.Barred)
     ∷ []

@@ -1,15 +1,12 @@
 -- A stream put together, with its check, its seeks, its book and look-ups: what is to be computed of it. Proved in proofs/Streams.antt.
-use Rattle.std.specs.Prelude.{ℕ, ◌≡◌, List, [], ◌∷◌, ◌++◌, replicate, take}
+use Rattle.std.specs.Prelude.{ℕ, ◌≡◌, List, [], ◌∷◌, ◌++◌, replicate, take, Ok, Err}
 use Rattle.plate.specs.Plate.{refusal, torn}
 use Rattle.stream.specs.Stream as stream
-use Rattle.stream.specs.declared.CheckAnswer.TheVariants as check
-use Rattle.stream.specs.declared.SeekAnswer.TheVariants as seek
 use Rattle.book.specs.Book as book
-use Rattle.book.specs.declared.LookupAnswer.TheVariants as lookup
 use Rattle.book_builder.specs.BookBuilder as builder
-use Rattle.book_builder.specs.declared.BuildAnswer.TheVariants as build
 use Rattle.map.proofs.Samples.{headed, M}
 use Rattle.paper_readings.specs.Forms.{with, name, rate, mpeg}
+use Rattle.plate.specs.declared.Fault.TheVariants as fault
 
 -- a media packet of track 1, type 10, with a field number under 256
 abbrev pub carrying : ℕ → List ℕ
@@ -50,47 +47,47 @@ room n = replicate n 0xEE
 
 pub record Computed : Type 0 where
   -- the check: accepted, with two numbers of packets; and no UMF is 21 at the EOS
-  pub checked : stream.check_of S ≡ check.Packets 5
-  pub mute_checked : stream.check_of mute ≡ check.Packets 3
-  pub no_umf : stream.check_of unnoted ≡ check.Refused (refusal 21 76)
+  pub checked : stream.check_of S ≡ Ok 5
+  pub mute_checked : stream.check_of mute ≡ Ok 3
+  pub no_umf : stream.check_of unnoted ≡ Err (refusal fault.NoUmf 76)
   -- cut inside the packet at 60: 12 bytes lack, to check, seek and builder alike; with 11 more one lacks, and with 12 the packet is whole, and the bytes run out behind it
-  pub torn_checked : stream.check_of (take 80 S) ≡ check.Refused (torn 60 12)
-  pub torn_sought : stream.seek_of (take 80 S) 1 0 ≡ seek.Refused (torn 60 12)
-  pub torn_built : builder.build_answer (room 33) (take 80 S) ≡ build.Refused (torn 60 12)
-  pub one_lacks : stream.check_of (take 91 S) ≡ check.Refused (torn 60 1)
-  pub none_lacks : stream.check_of (take 92 S) ≡ check.Refused (refusal 18 92)
+  pub torn_checked : stream.check_of (take 80 S) ≡ Err (torn 60 12)
+  pub torn_sought : stream.seek_of (take 80 S) 1 0 ≡ Err (torn 60 12)
+  pub torn_built : builder.build_answer (room 33) (take 80 S) ≡ Err (torn 60 12)
+  pub one_lacks : stream.check_of (take 91 S) ≡ Err (torn 60 1)
+  pub none_lacks : stream.check_of (take 92 S) ≡ Err (refusal fault.StreamEnd 92)
   -- of M, cut to 30 bytes, 14 lack; cut to 15, no length is known
-  pub map_torn : stream.check_of (take 30 M) ≡ check.Refused (torn 0 14)
-  pub map_short : stream.check_of (take 15 M) ≡ check.Refused (refusal 1 0)
+  pub map_torn : stream.check_of (take 30 M) ≡ Err (torn 0 14)
+  pub map_short : stream.check_of (take 15 M) ≡ Err (refusal fault.FewBytes 0)
   -- a first packet that is torn and no map: 5 before 17
-  pub torn_first : stream.check_of (headed 0xFD 20 ++ replicate 3 0) ≡ check.Refused (torn 0 1)
-  pub no_map_first : stream.check_of (headed 0xFD 20 ++ replicate 4 0) ≡ check.Refused (refusal 17 0)
+  pub torn_first : stream.check_of (headed 0xFD 20 ++ replicate 3 0) ≡ Err (torn 0 1)
+  pub no_map_first : stream.check_of (headed 0xFD 20 ++ replicate 4 0) ≡ Err (refusal fault.NoMapFirst 0)
   -- a second map with the wrong form, at 60: 29 at its tag, 43 behind that, to check, seek and builder alike; the bytes before it only run out; as the first map, at 43
-  pub wrong_checked : stream.check_of reformed ≡ check.Refused (refusal 29 103)
-  pub wrong_sought : stream.seek_of reformed 1 0 ≡ seek.Refused (refusal 29 103)
-  pub wrong_built : builder.build_answer (room 33) reformed ≡ build.Refused (refusal 29 103)
-  pub before_wrong : stream.check_of (take 60 reformed) ≡ check.Refused (refusal 18 60)
-  pub wrong_first : stream.check_of (deformed ++ headed 0xFD 16 ++ headed 0xFB 16) ≡ check.Refused (refusal 29 43)
+  pub wrong_checked : stream.check_of reformed ≡ Err (refusal fault.WrongForm 103)
+  pub wrong_sought : stream.seek_of reformed 1 0 ≡ Err (refusal fault.WrongForm 103)
+  pub wrong_built : builder.build_answer (room 33) reformed ≡ Err (refusal fault.WrongForm 103)
+  pub before_wrong : stream.check_of (take 60 reformed) ≡ Err (refusal fault.StreamEnd 60)
+  pub wrong_first : stream.check_of (deformed ++ headed 0xFD 16 ++ headed 0xFB 16) ≡ Err (refusal fault.WrongForm 43)
   -- and before 19, which another map there is refused with
-  pub wrong_due : stream.check_of (due deformed) ≡ check.Refused (refusal 29 127)
-  pub right_due : stream.check_of (due M) ≡ check.Refused (refusal 19 84)
+  pub wrong_due : stream.check_of (due deformed) ≡ Err (refusal fault.WrongForm 127)
+  pub right_due : stream.check_of (due M) ≡ Err (refusal fault.LocatorPlace 84)
   -- seek: each field where it lies, and 16 for a field, or a track, that is not there; the check's refusal first
-  pub field_0 : stream.seek_of S 1 0 ≡ seek.At 60
-  pub field_1 : stream.seek_of S 1 1 ≡ seek.At 92
-  pub no_field : stream.seek_of S 1 2 ≡ seek.Refused (refusal 16 0)
-  pub no_track : stream.seek_of S 2 0 ≡ seek.Refused (refusal 16 0)
-  pub not_checked : stream.seek_of unnoted 1 0 ≡ seek.Refused (refusal 21 76)
+  pub field_0 : stream.seek_of S 1 0 ≡ Ok 60
+  pub field_1 : stream.seek_of S 1 1 ≡ Ok 92
+  pub no_field : stream.seek_of S 1 2 ≡ Err (refusal fault.NotThere 0)
+  pub no_track : stream.seek_of S 2 0 ≡ Err (refusal fault.NotThere 0)
+  pub not_checked : stream.seek_of unnoted 1 0 ≡ Err (refusal fault.NoUmf 76)
   -- the builder: two records, or none, or 13 where one byte is missing, or the check's refusal
-  pub two : builder.build_answer (room 33) S ≡ build.Records 2
-  pub none : builder.build_answer (room 33) mute ≡ build.Records 0
-  pub no_room : builder.build_answer (room 31) S ≡ build.Refused (refusal 13 0)
-  pub not_built : builder.build_answer (room 33) unnoted ≡ build.Refused (refusal 21 76)
+  pub two : builder.build_answer (room 33) S ≡ Ok 2
+  pub none : builder.build_answer (room 33) mute ≡ Ok 0
+  pub no_room : builder.build_answer (room 31) S ≡ Err (refusal fault.Room 0)
+  pub not_built : builder.build_answer (room 33) unnoted ≡ Err (refusal fault.NoUmf 76)
   -- the buffer: the book, and the byte beyond it; of a stream without media nothing, and untouched where the build is refused
   pub written : builder.built_in (room 33) S ≡ B ++ (0xEE ∷ [])
   pub mute_written : builder.built_in (room 33) mute ≡ room 33
   pub untouched : builder.built_in (room 31) S ≡ room 31
   -- look-up: what seek gives; 16, and 23 for the second record, cut
-  pub record_0 : book.lookup_of B 1 0 ≡ lookup.At 60
-  pub record_1 : book.lookup_of B 1 1 ≡ lookup.At 92
-  pub no_record : book.lookup_of B 1 2 ≡ lookup.Refused (refusal 16 0)
-  pub cut : book.lookup_of (take 31 B) 1 0 ≡ lookup.Refused (refusal 23 1)
+  pub record_0 : book.lookup_of B 1 0 ≡ Ok 60
+  pub record_1 : book.lookup_of B 1 1 ≡ Ok 92
+  pub no_record : book.lookup_of B 1 2 ≡ Err (refusal fault.NotThere 0)
+  pub cut : book.lookup_of (take 31 B) 1 0 ≡ Err (refusal fault.Book 1)

@@ -1,11 +1,11 @@
 -- What serves the code alone: the length of a media packet, by what its header says.
-use Rattle.std.specs.Prelude.{ℕ, eqb}
+use Rattle.std.specs.Prelude.{ℕ, eqb, Option, Some, None, Result, Ok, Err}
 use Rattle.plate.specs.Choice.{pick}
 use Rattle.packet.specs.Packet.{type_media}
-use Rattle.packet.specs.declared.PacketAnswer.{PacketAnswer}
-use Rattle.packet.specs.declared.PacketAnswer.TheVariants as packet
+use Rattle.packet.specs.declared.Packet.{Packet}
+use Rattle.plate.specs.declared.Refusal.{Refusal}
 
--- 0 where there is no whole packet, or one of another type: no whole packet has 0 bytes
-unfoldable pub media_len : PacketAnswer → ℕ
-media_len (packet.Refused r) = 0
-media_len (packet.Whole w) = pick (eqb w.packet_type type_media) w.len 0
+-- none where there is no whole packet, or one of another type
+unfoldable pub media_len : Result Packet Refusal → Option ℕ
+media_len (Err r) = None
+media_len (Ok w) = pick (eqb w.packet_type type_media) (Some w.len) None

@@ -7,14 +7,10 @@ ghost use Rattle.piece.specs.Inside.{media_len};
 ghost use Rattle.piece.specs.Piece.{moved, opens, content_of, piece_at};
 ghost use Rattle.piece.specs.Seen.{Seeable, seen_at};
 
-use locator::LocatorAnswer;
-use map_items::Verdict;
-use media::MediaAnswer;
-use packet::PacketAnswer;
-use plate::Refusal;
+use plate::{Fault, Refusal};
 
 // A packet's type and length, and of a media packet its media type, track ID and field number; of any other, zeros.
-#[derive(Clone, Copy)]
+#[derive(Clone, Copy, Debug, PartialEq, Eq)]
 pub struct Piece {
     pub packet_type: u8,
     pub len: usize,
@@ -23,60 +19,54 @@ pub struct Piece {
     pub field: u32,
 }
 
-#[derive(Clone, Copy)]
-pub enum PieceAnswer {
-    Whole(Piece),
-    Refused(Refusal),
-}
-
 // A refusal of a packet that stands at a position: places inside the packet get its offset added.
-fn refused_at(r: Refusal, at: usize) -> PieceAnswer
+fn refused_at(r: Refusal, at: usize) -> Result<Piece, Refusal>
     requires { r.place + at < 2 ^ 64 }
-    ensures { result ≡ PieceAnswer.Refused (moved at r) }
+    ensures { result ≡ Err (moved at r) }
 {
-    PieceAnswer::Refused(plate::placed(r, r.place + at))
+    Err(plate::placed(r, r.place + at))
 }
 
 // A packet of which the rules of streams ask its type and length alone.
-fn plain(packet_type: u8, len: usize) -> PieceAnswer
-    ensures { result ≡ PieceAnswer.Whole (record { packet_type = packet_type; len = len; media_type = 0; track = 0; field = 0 }) }
+fn plain(packet_type: u8, len: usize) -> Piece
+    ensures { result ≡ record { packet_type = packet_type; len = len; media_type = 0; track = 0; field = 0 } }
 {
-    PieceAnswer::Whole(Piece {
+    Piece {
         packet_type,
         len,
         media_type: 0,
         track: 0,
         field: 0,
-    })
+    }
 }
 
-fn map_content(p: &[u8], at: usize) -> PieceAnswer
+fn map_content(p: &[u8], at: usize) -> Result<Piece, Refusal>
     requires { (16 ≤ length p.now) × (at + length p.now < 2 ^ 64) }
     ensures { result ≡ content_of p.now at 0xBC }
 {
     match map::verdict_of(p) {
-        Verdict::Refused(r) => refused_at(r, at),
-        Verdict::Accepted => plain(packet::MAP, p.len()),
+        Err(r) => refused_at(r, at),
+        Ok(()) => Ok(plain(packet::MAP, p.len())),
     }
 }
 
-fn locator_content(p: &[u8], at: usize) -> PieceAnswer
+fn locator_content(p: &[u8], at: usize) -> Result<Piece, Refusal>
     requires { (16 ≤ length p.now) × (at + length p.now < 2 ^ 64) }
     ensures { result ≡ content_of p.now at 0xFC }
 {
     match locator::table(p) {
-        LocatorAnswer::Refused(r) => refused_at(r, at),
-        LocatorAnswer::Table(_) => plain(packet::FLT, p.len()),
+        Err(r) => refused_at(r, at),
+        Ok(_) => Ok(plain(packet::FLT, p.len())),
     }
 }
 
-fn media_content(p: &[u8], at: usize) -> PieceAnswer
+fn media_content(p: &[u8], at: usize) -> Result<Piece, Refusal>
     requires { (16 ≤ length p.now) × (at + length p.now < 2 ^ 64) }
     ensures { result ≡ content_of p.now at 0xBF }
 {
     match media::preamble(p, 0) {
-        MediaAnswer::Refused(r) => refused_at(r, at),
-        MediaAnswer::Preamble(m) => PieceAnswer::Whole(Piece {
+        Err(r) => refused_at(r, at),
+        Ok(m) => Ok(Piece {
             packet_type: packet::MEDIA,
             len: p.len(),
             media_type: m.media_type,
@@ -87,79 +77,58 @@ fn media_content(p: &[u8], at: usize) -> PieceAnswer
 }
 
 // The content of a whole packet that stands at a position.
-fn content(p: &[u8], at: usize, packet_type: u8) -> PieceAnswer
+fn content(p: &[u8], at: usize, packet_type: u8) -> Result<Piece, Refusal>
     requires { (16 ≤ length p.now) × (at + length p.now < 2 ^ 64) }
     ensures { result ≡ content_of p.now at packet_type }
 {
-    if packet_type == packet::MEDIA {
-        return media_content(p, at);
+    match packet_type {
+        packet::MEDIA => media_content(p, at),
+        packet::MAP => map_content(p, at),
+        packet::FLT => locator_content(p, at),
+        _ => Ok(plain(packet_type, p.len())),
     }
-    if packet_type == packet::MAP {
-        return map_content(p, at);
-    }
-    if packet_type == packet::FLT {
-        return locator_content(p, at);
-    }
-    plain(packet_type, p.len())
 }
 
 // Whether a packet of a type may stand where it does: the first is a map.
 fn may_open(first: bool, packet_type: u8) -> bool
     ensures { result ≡ opens first packet_type }
 {
-    if first {
-        return packet_type == packet::MAP;
-    }
-    true
+    !first || packet_type == packet::MAP
 }
 
 // Any packet at a position of a stream: header faults, 17, content faults.
-fn any_at(s: &[u8], at: usize, first: bool) -> PieceAnswer
+fn any_at(s: &[u8], at: usize, first: bool) -> Result<Piece, Refusal>
     ensures { result ≡ piece_at s.now at first }
 {
-    match packet::header(s, at) {
-        PacketAnswer::Refused(r) => PieceAnswer::Refused(r),
-        PacketAnswer::Whole(w) => {
-            let packet_type = w.packet_type;
-            let e = at + w.len;
-            if may_open(first, packet_type) {
-                return content(&s[at..e], at, packet_type);
-            }
-            PieceAnswer::Refused(plate::refuse(plate::NO_MAP_FIRST, at))
-        }
+    let w = packet::header(s, at)?;
+    if !may_open(first, w.packet_type) {
+        return Err(plate::refuse(Fault::NoMapFirst, at));
     }
+    content(&s[at..at + w.len], at, w.packet_type)
 }
 
-// The length of the whole media packet at a position; 0 where there is none.
-fn media_len(s: &[u8], at: usize) -> usize
+// The length of the whole media packet at a position, if there is one.
+fn media_len(s: &[u8], at: usize) -> Option<usize>
     ensures { result ≡ media_len (header_at s.now at) }
 {
     match packet::header(s, at) {
-        PacketAnswer::Refused(_) => 0,
-        PacketAnswer::Whole(w) => {
-            let packet_type = w.packet_type;
-            if packet_type == packet::MEDIA {
-                return w.len;
-            }
-            0
-        }
+        Ok(w) if w.packet_type == packet::MEDIA => Some(w.len),
+        _ => None,
     }
 }
 
 // The packet at a position of a stream: header faults, 17, content faults. Most are media packets, which are seen to here: what is none, or is refused, is read
 // once more, so that no refusal of a header is carried along with every packet.
-pub fn piece_at(s: &[u8], at: usize, first: bool) -> PieceAnswer
+pub fn piece_at(s: &[u8], at: usize, first: bool) -> Result<Piece, Refusal>
     ensures { result ≡ piece_at s.now at first }
 {
-    let n = media_len(s, at);
-    if n == 0 {
+    let Some(n) = media_len(s, at) else {
         return any_at(s, at, first);
-    }
+    };
     if first {
-        return PieceAnswer::Refused(plate::refuse(plate::NO_MAP_FIRST, at));
+        return Err(plate::refuse(Fault::NoMapFirst, at));
     }
-    let e = at + n;
-    media_content(&s[at..e], at)
+    media_content(&s[at..at + n], at)
 }
 
 // The piece at an offset where `piece_at` gave one, by its bytes alone: for who has checked the stream, and tests nothing twice.
@@ -179,11 +148,5 @@ pub fn seen_at(s: &[u8], at: usize) -> Piece
             field: field as u32,
         };
     }
-    Piece {
-        packet_type,
-        len,
-        media_type: 0,
-        track: 0,
-        field: 0,
-    }
+    plain(packet_type, len)
 }

@@ -1,7 +1,7 @@
 // The probe's lines: tokens of a line, put into a lent buffer from a place on; each function gives the place behind what it put. What finds no room is left out.
 #![tactic(auto)]
 
-use plate::Refusal;
+use plate::{Fault, Refusal};
 
 fn put(out: &mut [u8], at: usize, b: u8) -> usize {
     if at < out.len() {
@@ -12,8 +12,10 @@ fn put(out: &mut [u8], at: usize, b: u8) -> usize {
 }
 
 fn digit(x: u8) -> u8 {
-    let d = x % 16;
-    if d < 10 { 48 + d } else { 87 + d }
+    match x % 16 {
+        d @ 0..=9 => b'0' + d,
+        d => b'a' + (d - 10),
+    }
 }
 
 // A byte as it is, or in two digits.
@@ -27,10 +29,8 @@ fn byte(out: &mut [u8], at: usize, b: u8, in_hex: bool) -> usize {
 
 fn spell(out: &mut [u8], at: usize, bytes: &[u8], in_hex: bool) -> usize {
     let mut k = at;
-    let mut i: usize = 0;
-    while i < bytes.len() {
-        k = byte(out, k, bytes[i], in_hex);
-        i += 1;
+    for &b in bytes {
+        k = byte(out, k, b, in_hex);
     }
     k
 }
@@ -74,10 +74,18 @@ pub fn two(out: &mut [u8], at: usize, word: &[u8], n: usize, m: usize) -> usize 
     figure(out, k, m as u64)
 }
 
+// A word and a number, or the refusal that stands in its place.
+pub fn answer(out: &mut [u8], at: usize, word: &[u8], a: Result<usize, Refusal>) -> usize {
+    match a {
+        Ok(n) => one(out, at, word, n),
+        Err(r) => refused(out, at, r),
+    }
+}
+
 // A refusal: its number and its place, and of a torn packet the bytes lacking.
 pub fn refused(out: &mut [u8], at: usize, r: Refusal) -> usize {
-    let k = two(out, at, b"refused", r.number as usize, r.place);
-    if r.number == plate::TORN {
+    let k = two(out, at, b"refused", r.fault.number() as usize, r.place);
+    if r.fault == Fault::Torn {
         return figure(out, k, r.lacking as u64);
     }
     k

@@ -1,74 +1,55 @@
 // The probe's answers of one packet, and of a walker.
 #![tactic(auto)]
 
-use locator::{LocatorAnswer, PositionAnswer};
-use media::{Media, MediaAnswer};
-use packet::PacketAnswer;
+use media::Media;
+use packet::Packet;
+use plate::Refusal;
 
-fn packet_words(out: &mut [u8], at: usize, a: PacketAnswer) -> usize {
+fn packet_words(out: &mut [u8], at: usize, a: Result<Packet, Refusal>) -> usize {
     match a {
-        PacketAnswer::Whole(p) => probe_line::two(
-            out,
-            at,
-            b"packet",
-            p.packet_type as usize,
-            p.len,
-        ),
-        PacketAnswer::Refused(r) => probe_line::refused(out, at, r),
+        Ok(p) => probe_line::two(out, at, b"packet", p.packet_type as usize, p.len),
+        Err(r) => probe_line::refused(out, at, r),
     }
 }
 
 pub fn header(out: &mut [u8], s: &[u8], at: usize) -> usize {
-    let a = packet::header(s, at);
-    packet_words(out, 0, a)
+    packet_words(out, 0, packet::header(s, at))
 }
 
-pub fn of_type(out: &mut [u8], s: &[u8], at: usize, packet_type: usize) -> usize {
-    if 255 < packet_type {
-        return 0;
-    }
-    let a = packet::of_type(s, at, packet_type as u8);
-    packet_words(out, 0, a)
-}
-
-fn position_words(out: &mut [u8], s: &[u8], at: usize, distance: u64) -> usize {
-    match locator::position(s, at, distance) {
-        PositionAnswer::At(p) => probe_line::one(out, 0, b"position", p as usize),
-        PositionAnswer::Refused(r) => probe_line::refused(out, 0, r),
-    }
+// None where the type is no byte: the request is malformed.
+pub fn of_type(out: &mut [u8], s: &[u8], at: usize, packet_type: usize) -> Option<usize> {
+    let packet_type = u8::try_from(packet_type).ok()?;
+    Some(packet_words(out, 0, packet::of_type(s, at, packet_type)))
 }
 
 // The table's own refusal is asked of the reader of the table.
+fn position_by(s: &[u8], at: usize, distance: u64) -> Result<usize, Refusal> {
+    locator::read(s, at)?;
+    let p = locator::position(s, at, distance)?;
+    Ok(p as usize)
+}
+
 pub fn position(out: &mut [u8], s: &[u8], at: usize, distance: u64) -> usize {
-    match locator::read(s, at) {
-        LocatorAnswer::Table(_) => position_words(out, s, at, distance),
-        LocatorAnswer::Refused(r) => probe_line::refused(out, 0, r),
-    }
+    probe_line::answer(out, 0, b"position", position_by(s, at, distance))
 }
 
-fn media_front(out: &mut [u8], m: Media) -> usize {
+fn media_words(out: &mut [u8], m: Media) -> usize {
     let k = probe_line::two(out, 0, b"media", m.media_type as usize, m.track as usize);
-    probe_line::figure(out, k, m.field as u64)
-}
-
-fn media_back(out: &mut [u8], at: usize, m: Media) -> usize {
-    let k = probe_line::figure(out, at, m.info as u64);
+    let k = probe_line::figure(out, k, m.field as u64);
+    let k = probe_line::figure(out, k, m.info as u64);
     let k = probe_line::figure(out, k, m.timeline as u64);
     probe_line::figure(out, k, m.flags as u64)
 }
 
 pub fn media(out: &mut [u8], s: &[u8], at: usize) -> usize {
     match media::read(s, at) {
-        MediaAnswer::Preamble(m) => {
-            let k = media_front(out, m);
-            media_back(out, k, m)
-        }
-        MediaAnswer::Refused(r) => probe_line::refused(out, 0, r),
+        Ok(m) => media_words(out, m),
+        Err(r) => probe_line::refused(out, 0, r),
     }
 }
 
 // The answer of a walker's step, and its place after it.
-fn step_words(out: &mut [u8], at: usize, a: PacketAnswer, place: usize) -> usize {
+fn step_words(out: &mut [u8], at: usize, a: Result<Packet, Refusal>, place: usize) -> usize {
     let k = probe_line::say(out, at, b" ");
     let k = packet_words(out, k, a);
     probe_line::figure(out, k, place as u64)
@@ -83,21 +64,17 @@ fn same_place(out: &mut [u8], at: usize, s: &[u8], n: usize, place: usize) -> us
     probe_line::say(out, at, b" strayed")
 }
 
-// The walker's answers to n steps from place 0, each with its place after the step.
-pub fn walk(out: &mut [u8], s: &[u8], n: usize) -> usize {
+// The walker's answers to n steps from place 0, each with its place after the step; none where n is over 5,000.
+pub fn walk(out: &mut [u8], s: &[u8], n: usize) -> Option<usize> {
     if 5000 < n {
-        return 0;
+        return None;
     }
     let mut k = probe_line::say(out, 0, b"walk");
     let mut at: usize = 0;
-    let mut i: usize = 0;
-    while i < n {
+    for _ in 0..n {
         let here = walker::walk(s, at, 0);
-        let next = walker::walk(s, at, 1);
-        let answer = here.answer;
-        at = next.at;
-        k = step_words(out, k, answer, at);
-        i += 1;
+        at = walker::walk(s, at, 1).at;
+        k = step_words(out, k, here.answer, at);
     }
-    same_place(out, k, s, n, at)
+    Some(same_place(out, k, s, n, at))
 }

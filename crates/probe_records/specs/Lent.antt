@@ -1,12 +1,13 @@
 -- A call of `map_records::fill` on the first n of some records (01, Map, "Reading fills lent track records").
-use Rattle.std.specs.Prelude.{ℕ, List, ◌++◌, take, drop, ltb}
+use Rattle.std.specs.Prelude.{ℕ, List, ◌++◌, take, drop, ltb, Result}
 use Rattle.plate.specs.Choice.{pick}
 use Rattle.map_answer.specs.declared.Track.{Track}
-use Rattle.map.specs.declared.MapAnswer.{MapAnswer}
 use Rattle.map_records.specs.Fill.{records_at, answer_for, lent_after}
 use Rattle.probe_records.specs.declared.After.{After}
+use Rattle.map.specs.declared.MapSays.{MapSays}
+use Rattle.plate.specs.declared.Refusal.{Refusal}
 
-abbrev pub afterwards : MapAnswer → List Track → After
+abbrev pub afterwards : Result MapSays Refusal → List Track → After
 afterwards a zs = record { answer = a; records = zs }
 
 -- n is at most the number of records: the answer for n, and all records: those that were lent as the call leaves them, then the others as they were

@@ -5,17 +5,18 @@
 ghost use Rattle.std.specs.Prelude.{◌≡◌, ◌≤◌, replicate};
 ghost use Rattle.probe_records.specs.Lent.{afterwards, after_fill, lent_of};
 
-use map::MapAnswer;
+use map::MapSays;
 use map_answer::Track;
+use plate::Refusal;
 
 // The answer of a call, and all records as it left them.
 #[derive(Clone, Copy)]
 pub struct After {
-    pub answer: MapAnswer,
+    pub answer: Result<MapSays, Refusal>,
     pub records: [Track; 80],
 }
 
-fn left(answer: MapAnswer, records: [Track; 80]) -> After
+fn left(answer: Result<MapSays, Refusal>, records: [Track; 80]) -> After
     ensures { result ≡ afterwards answer records }
 {
     After { answer, records }

@@ -5,28 +5,18 @@ ghost use Rattle.std.specs.Prelude.{◌≤◌, length};
 
 // Byte i is i * 7 + 3 modulo 256.
 pub fn prefill(room: &mut [u8]) {
-    let mut i: usize = 0;
-    while i < room.len() {
-        room[i] = ((i % 256 * 7 + 3) % 256) as u8;
-        i += 1;
+    for (i, b) in room.iter_mut().enumerate() {
+        *b = ((i % 256 * 7 + 3) % 256) as u8;
     }
-}
-
-fn least(a: usize, b: usize) -> usize
-    ensures { (result ≤ a) × (result ≤ b) }
-{
-    if a < b { a } else { b }
 }
 
 // The numbers of 8 bytes, least significant first; how many there are.
 pub fn words(list: &mut [u64], s: &[u8]) -> usize
     ensures { result ≤ length list.old }
 {
-    let n = least(s.len() / 8, list.len());
-    let mut i: usize = 0;
-    while i < n {
+    let n = (s.len() / 8).min(list.len());
+    for i in 0..n {
         list[i] = number::le_at(s, 8 * i, 8) as u64;
-        i += 1;
     }
     n
 }

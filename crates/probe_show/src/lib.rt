@@ -1,24 +1,24 @@
 // The probe's words for what a map says: numbers, codes, places, the material and a track's record.
 #![tactic(auto)]
 
-use map_answer::{Code, Material, Track, Value};
+use map_answer::{Code, Material, Track};
 use map_aspect::Aspect;
 use map_items::Part;
 
-fn value(out: &mut [u8], at: usize, v: Value) -> usize {
+fn value(out: &mut [u8], at: usize, v: Option<u32>) -> usize {
     match v {
-        Value::Is(n) => probe_line::figure(out, at, n as u64),
-        Value::Absent => probe_line::say(out, at, b" -"),
+        Some(n) => probe_line::figure(out, at, n as u64),
+        None => probe_line::say(out, at, b" -"),
     }
 }
 
-fn part(out: &mut [u8], at: usize, p: Part) -> usize {
+fn part(out: &mut [u8], at: usize, p: Option<Part>) -> usize {
     match p {
-        Part::At(q, n) => {
-            let k = probe_line::figure(out, at, q as u64);
-            probe_line::figure(out, k, n as u64)
+        Some(p) => {
+            let k = probe_line::figure(out, at, p.at as u64);
+            probe_line::figure(out, k, p.len as u64)
         }
-        Part::Absent => probe_line::say(out, at, b" -"),
+        None => probe_line::say(out, at, b" -"),
     }
 }
 
@@ -42,41 +42,22 @@ fn aspect(out: &mut [u8], at: usize, a: Aspect) -> usize {
 // The count and the material.
 pub fn says(out: &mut [u8], count: usize, m: Material) -> usize {
     let k = probe_line::one(out, 0, b"map", count);
-    let p = m.name;
-    let k = part(out, k, p);
-    let v = m.first;
-    let k = value(out, k, v);
-    let v = m.last;
-    let k = value(out, k, v);
-    let v = m.mark_in;
-    let k = value(out, k, v);
-    let v = m.mark_out;
-    let k = value(out, k, v);
-    let v = m.size;
-    value(out, k, v)
-}
-
-fn codes(out: &mut [u8], at: usize, t: Track) -> usize {
-    let k = probe_line::two(out, at, b" record", t.id as usize, t.media_type as usize);
-    let c = t.rate;
-    let k = code(out, k, c);
-    let c = t.lines;
-    let k = code(out, k, c);
-    let c = t.fields;
-    let k = code(out, k, c);
-    let v = t.version;
-    value(out, k, v)
+    let mut k = part(out, k, m.name);
+    for v in [m.first, m.last, m.mark_in, m.mark_out, m.size] {
+        k = value(out, k, v);
+    }
+    k
 }
 
 // A track's record.
 pub fn record(out: &mut [u8], at: usize, t: Track) -> usize {
-    let k = codes(out, at, t);
-    let p = t.name;
-    let k = part(out, k, p);
-    let p = t.aux;
-    let k = part(out, k, p);
-    let p = t.mpeg;
-    let k = part(out, k, p);
-    let a = t.aspect;
-    aspect(out, k, a)
+    let mut k = probe_line::two(out, at, b" record", t.id as usize, t.media_type as usize);
+    for c in [t.rate, t.lines, t.fields] {
+        k = code(out, k, c);
+    }
+    k = value(out, k, t.version);
+    for p in [t.name, t.aux, t.mpeg] {
+        k = part(out, k, p);
+    }
+    aspect(out, k, t.aspect)
 }

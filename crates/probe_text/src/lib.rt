@@ -1,14 +1,13 @@
 // The probe's answers of a track's texts: its name, by one map or two, and the parameters of an auxiliary text.
 #![tactic(auto)]
 
-use map_name::{NameAnswer, TwoAnswer};
-use mpeg::MpegAnswer;
+use map_name::OfTwo;
 use mpeg_parameter::{ParameterValue, Parameters};
 use plate::Refusal;
 
 // Of 1 to 6 the place is the packet's first byte in the bytes that were sent, of others it counts from there.
 fn placed(r: Refusal, at: usize) -> Refusal {
-    if r.number < 7 {
+    if r.fault.number() < 7 {
         return plate::placed(r, at);
     }
     r
@@ -17,8 +16,8 @@ fn placed(r: Refusal, at: usize) -> Refusal {
 // The library takes the map at the start of what it is lent: that is the bytes from the position on.
 fn name_words(out: &mut [u8], p: &[u8], id: usize, at: usize) -> usize {
     match map_name::name_place(p, id) {
-        NameAnswer::At(q, m) => probe_line::two(out, 0, b"name", q, m),
-        NameAnswer::Refused(r) => probe_line::refused(out, 0, placed(r, at)),
+        Ok(name) => probe_line::two(out, 0, b"name", name.at, name.len),
+        Err(r) => probe_line::refused(out, 0, placed(r, at)),
     }
 }
 
@@ -36,9 +35,9 @@ pub fn name(out: &mut [u8], s: &[u8], at: usize, id: usize) -> usize {
 
 fn two_words(out: &mut [u8], opening: &[u8], closing: &[u8], id: usize) -> usize {
     match map_name::name_place_of_two(opening, closing, id) {
-        TwoAnswer::Opening(q, m) => probe_line::two(out, 0, b"opening", q, m),
-        TwoAnswer::Closing(q, m) => probe_line::two(out, 0, b"closing", q, m),
-        TwoAnswer::Refused(r) => probe_line::refused(out, 0, r),
+        Ok(OfTwo::Opening(name)) => probe_line::two(out, 0, b"opening", name.at, name.len),
+        Ok(OfTwo::Closing(name)) => probe_line::two(out, 0, b"closing", name.at, name.len),
+        Err(r) => probe_line::refused(out, 0, r),
     }
 }
 
@@ -54,61 +53,27 @@ fn value(out: &mut [u8], at: usize, v: ParameterValue) -> usize {
     }
 }
 
-fn front(out: &mut [u8], p: Parameters) -> usize {
-    let k = probe_line::say(out, 0, b"parameters");
-    let v = p.ver;
-    let k = value(out, k, v);
-    let v = p.br;
-    let k = value(out, k, v);
-    let v = p.ipg;
-    let k = value(out, k, v);
-    let v = p.ppi;
-    let k = value(out, k, v);
-    let v = p.bpiop;
-    let k = value(out, k, v);
-    let v = p.pix;
-    value(out, k, v)
-}
-
-fn back(out: &mut [u8], at: usize, p: Parameters) -> usize {
-    let v = p.cf;
-    let k = value(out, at, v);
-    let v = p.cg;
-    let k = value(out, k, v);
-    let v = p.sl;
-    let k = value(out, k, v);
-    let v = p.nl16;
-    let k = value(out, k, v);
-    let v = p.vi;
-    value(out, k, v)
-}
-
-fn last(out: &mut [u8], at: usize, p: Parameters) -> usize {
-    let v = p.f1;
-    let k = value(out, at, v);
-    let v = p.cbpg;
-    let k = value(out, k, v);
-    let v = p.ar;
-    value(out, k, v)
+fn values(out: &mut [u8], p: Parameters) -> usize {
+    let mut k = probe_line::say(out, 0, b"parameters");
+    for v in [
+        p.ver, p.br, p.ipg, p.ppi, p.bpiop, p.pix, p.cf, p.cg, p.sl, p.nl16, p.vi, p.f1, p.cbpg,
+        p.ar,
+    ] {
+        k = value(out, k, v);
+    }
+    k
 }
 
 pub fn text(out: &mut [u8], s: &[u8]) -> usize {
     match mpeg::read(s) {
-        MpegAnswer::Given(p) => {
-            let k = front(out, p);
-            let k = back(out, k, p);
-            last(out, k, p)
-        }
-        MpegAnswer::Refused(r) => probe_line::refused(out, 0, r),
+        Ok(p) => values(out, p),
+        Err(r) => probe_line::refused(out, 0, r),
     }
 }
 
 // The name of a track by two maps: the second is still to be read.
-pub fn two(out: &mut [u8], x: u64, a: &[u8]) -> usize {
+pub fn two(out: &mut [u8], x: u64, a: &[u8]) -> Option<usize> {
     let mut b = [0u8; 65536];
-    let n = probe_request::string(&mut b);
-    if 65536 < n {
-        return 0;
-    }
-    name_of_two(out, a, &b[0..n], x as usize)
+    let b = probe_request::string(&mut b)?;
+    Some(name_of_two(out, a, b, x as usize))
 }

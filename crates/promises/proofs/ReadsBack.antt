@@ -6,13 +6,13 @@ use mathlib.Core.List.{List, [], ◌∷◌}
 use native.Mathlib.Omega.{arith}
 use lib.ListN.{length}
 use lib.Dec.{ltb}
+use Rattle.std.specs.Prelude.{Result, Ok, Err}
 use Rattle.plate.specs.Choice.{pick}
-use Rattle.plate.specs.Plate.{refusal}
+use Rattle.plate.specs.Plate.{refusal, number}
 use Rattle.plate.specs.declared.Refusal.{Refusal}
+use Rattle.plate.specs.declared.Fault.TheVariants as fault
 use Rattle.map_items.specs.Judge.{has}
 use Rattle.packet_writer.specs.Write.{refused}
-use Rattle.packet_writer.specs.declared.WriteAnswer.{WriteAnswer}
-use Rattle.packet_writer.specs.declared.WriteAnswer.TheVariants as write
 use Rattle.map_writer.specs.Readers as map
 use Rattle.map_writer.proofs.RoundTrip as map-trip
 use Rattle.map_writer.proofs.Readers.{write_then_read}
@@ -26,21 +26,21 @@ use Rattle.paper_readings.proofs.Calls.{map_written_is, locator_written_is}
 use Rattle.promises.specs.ReadsBack.{ReadsBack}
 
 -- whatever the contract of `map_writer::write` allows, the readers show what was given
-map_read : (out : List ℕ) (at : ℕ) (text ms ts : List ℕ) (n : ℕ) (o : List ℕ) → WritesMap out at text ms ts (write.Length n) o → map.Readers o at n text ms ts
+map_read : (out : List ℕ) (at : ℕ) (text ms ts : List ℕ) (n : ℕ) (o : List ℕ) → WritesMap out at text ms ts (Ok n) o → map.Readers o at n text ms ts
 map_read out at text ms ts n o g =
-    let e : g.result ≡ write.Length n = ap (λ (p : WriteAnswer × List ℕ). p.0) g.it in
-    let f : g.exit.0.now ≡ o = ap (λ (p : WriteAnswer × List ℕ). p.1) g.it in
+    let e : g.result ≡ Ok n = ap (λ (p : (Result ℕ Refusal) × List ℕ). p.0) g.it in
+    let f : g.exit.0.now ≡ o = ap (λ (p : (Result ℕ Refusal) × List ℕ). p.1) g.it in
     rw (← f, ← g.on.1, ← g.on.2, ← g.on.3, ← g.on.4) (write_then_read g.lifetimes g.arguments n g.exit (rw e at g.post))
 
 -- a table that is refused: 24, or 13
-locator_refused : (out : List ℕ) (at step : ℕ) (ns : List ℕ) (r : Refusal) → locator_answer out at step ns ≡ write.Refused r → (has r.number (24 ∷ 13 ∷ []) ≡ true) × (r.place ≡ 0) × (r.lacking ≡ 0)
+locator_refused : (out : List ℕ) (at step : ℕ) (ns : List ℕ) (r : Refusal) → locator_answer out at step ns ≡ Err r → (has (number r) (24 ∷ 13 ∷ []) ≡ true) × (r.place ≡ 0) × (r.lacking ≡ 0)
 unfolding locator_answer has
 locator_refused out at step ns r = go (may_write step ns) (ltb (length out - at) (length_of ns))
   where
-    go : (a b : Bool) → pick a (pick b (refused 13) (write.Length (length_of ns))) (refused 24) ≡ write.Refused r → (has r.number (24 ∷ 13 ∷ []) ≡ true) × (r.place ≡ 0) × (r.lacking ≡ 0)
-    go true true e = let q : refusal 13 0 ≡ r = cc in rw (← q) (refl, refl, refl)
+    go : (a b : Bool) → pick a (pick b (refused fault.Room) (Ok (length_of ns))) (refused fault.Barred) ≡ Err r → (has (number r) (24 ∷ 13 ∷ []) ≡ true) × (r.place ≡ 0) × (r.lacking ≡ 0)
+    go true true e = let q : refusal fault.Room 0 ≡ r = cc in rw (← q) (refl, refl, refl)
     go true false e = absurd (let z : ◌≡◌ {A = ℕ} 0 1 = cc in omega arith)
-    go false b e = let q : refusal 24 0 ≡ r = cc in rw (← q) (refl, refl, refl)
+    go false b e = let q : refusal fault.Barred 0 ≡ r = cc in rw (← q) (refl, refl, refl)
 
 pub reads_back : ReadsBack
 reads_back =

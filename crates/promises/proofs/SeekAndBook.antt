@@ -1,10 +1,9 @@
 -- Seek and book, from the theorems of stream, book_builder and agreement.
-use mathlib.Core.Path.{sym, ◌∙◌, ap}
+use mathlib.Core.Path.{sym, ◌∙◌}
 use Rattle.stream.proofs.Counted.{check_counts}
 use Rattle.stream.proofs.Sought.{answer_carries, carrier_answers, none_is_16, refused_is_none, refused_alike}
 use Rattle.book_builder.proofs.Laws.{build_refused, build_small}
 use Rattle.book_builder.proofs.Same.{answered, book_of_lem, many_of, beyond_stays, lookup_is_seek}
-use Rattle.book_builder.specs.Same.{as_seek}
 use Rattle.agreement.proofs.Contract.{never_two}
 use Rattle.paper_readings.proofs.Given.{check_is, seek_is, lookup_is}
 use Rattle.paper_readings.proofs.Calls.{built_is}
@@ -21,7 +20,7 @@ seek_and_book =
       unchecked = λ s r c track field x g. seek_is s track field x g ∙ refused_alike track field s r (sym (check_is s _ c));
       book = λ s b small l n o built track field y found z sought.
           let e = built_is l s _ o built in
-          ap as_seek (rw e.1 at (lookup_is _ track field y found)) ∙ lookup_is_seek s (λ i. record { fits = b i }) small l n (sym e.0) track field ∙ sym (seek_is s track field z sought);
+          rw e.1 at (lookup_is _ track field y found) ∙ lookup_is_seek s (λ i. record { fits = b i }) small l n (sym e.0) track field ∙ sym (seek_is s track field z sought);
       records = λ l s n o built. let e = built_is l s _ o built in (many_of l s n (sym e.0), rw e.1 (book_of_lem l s n (sym e.0)));
       built = λ s k c l h x o g. (built_is l s x o g).0 ∙ answered l s k (sym (check_is s _ c)) h;
       no_room = λ s k c l h x o g. (built_is l s x o g).0 ∙ sym (build_small l s k (sym (check_is s _ c)) h).0;

@@ -2,22 +2,17 @@
 #![tactic(auto)]
 
 use console::{figure, load, refused, say};
-use map::{MapAnswer, TrackAnswer};
-use map_answer::{Code, Material, Value};
+use map_answer::{Code, Material};
 use map_aspect::Aspect;
-use mpeg::MpegAnswer;
 use mpeg_parameter::ParameterValue;
-use stream::{CheckAnswer, SeekAnswer};
 
 fn show_check(s: &[u8]) {
     match stream::check(s) {
-        CheckAnswer::Packets(n) => {
+        Ok(n) => {
             say(b"packets");
             figure(n as u64);
         }
-        CheckAnswer::Refused(r) => {
-            refused(r);
-        }
+        Err(r) => refused(r),
     }
     say(b"\n");
 }
@@ -28,54 +23,39 @@ fn show_seek(s: &[u8], track: u64, field: u64) {
     figure(field);
     say(b": ");
     match stream::seek(s, track, field) {
-        SeekAnswer::At(o) => {
+        Ok(o) => {
             say(b"at");
             figure(o as u64);
         }
-        SeekAnswer::Refused(r) => {
-            refused(r);
-        }
+        Err(r) => refused(r),
     }
     say(b"\n");
 }
 
-fn show_value(name: &[u8], v: Value) {
-    match v {
-        Value::Is(n) => {
-            say(name);
-            figure(n as u64);
-        }
-        Value::Absent => {}
+fn show_value(name: &[u8], v: Option<u32>) {
+    if let Some(n) = v {
+        say(name);
+        figure(u64::from(n));
     }
 }
 
 fn show_material(m: Material) {
-    let first = m.first;
-    let last = m.last;
-    let mark_in = m.mark_in;
-    let mark_out = m.mark_out;
-    let size = m.size;
-    show_value(b", first", first);
-    show_value(b", last", last);
-    show_value(b", mark in", mark_in);
-    show_value(b", mark out", mark_out);
-    show_value(b", size", size);
+    show_value(b", first", m.first);
+    show_value(b", last", m.last);
+    show_value(b", mark in", m.mark_in);
+    show_value(b", mark out", m.mark_out);
+    show_value(b", size", m.size);
 }
 
 fn show_code(name: &[u8], c: Code) {
+    if c == Code::Absent {
+        return;
+    }
+    say(name);
     match c {
-        Code::Is(n) => {
-            say(name);
-            figure(n as u64);
-        }
-        Code::NotApplicable => {
-            say(name);
-            say(b" not applicable");
-        }
-        Code::NotAvailable => {
-            say(name);
-            say(b" not available");
-        }
+        Code::Is(n) => figure(u64::from(n)),
+        Code::NotApplicable => say(b" not applicable"),
+        Code::NotAvailable => say(b" not available"),
         Code::Absent => {}
     }
 }
@@ -88,52 +68,37 @@ fn show_name(s: &[u8], id: usize) {
 
 fn show_aspect(a: Aspect) {
     match a {
-        Aspect::FourByThree => {
-            say(b", aspect 4x3");
-        }
-        Aspect::SixteenByNine => {
-            say(b", aspect 16x9");
-        }
-        Aspect::Unknown => {
-            say(b", aspect unknown");
-        }
+        Aspect::FourByThree => say(b", aspect 4x3"),
+        Aspect::SixteenByNine => say(b", aspect 16x9"),
+        Aspect::Unknown => say(b", aspect unknown"),
     }
 }
 
 fn show_track(s: &[u8], k: usize) {
-    match map::track(s, 0, k) {
-        TrackAnswer::Record(t) => {
-            let rate = t.rate;
-            let lines = t.lines;
-            let fields = t.fields;
-            say(b"  track");
-            figure(t.id as u64);
-            say(b", type");
-            figure(t.media_type as u64);
-            show_code(b", rate", rate);
-            show_code(b", lines", lines);
-            show_code(b", fields", fields);
-            let aspect = t.aspect;
-            show_aspect(aspect);
-            show_name(s, number::wide(t.id));
-            say(b"\n");
-        }
-        TrackAnswer::Refused(_) => {}
-    }
+    let Ok(t) = map::track(s, 0, k) else {
+        return;
+    };
+    say(b"  track");
+    figure(u64::from(t.id));
+    say(b", type");
+    figure(u64::from(t.media_type));
+    show_code(b", rate", t.rate);
+    show_code(b", lines", t.lines);
+    show_code(b", fields", t.fields);
+    show_aspect(t.aspect);
+    show_name(s, usize::from(t.id));
+    say(b"\n");
 }
 
 fn show_map(s: &[u8]) {
     say(b"  map: ");
     match map::read(s, 0) {
-        MapAnswer::Says(m) => {
-            let material = m.material;
+        Ok(m) => {
             say(b"tracks");
             figure(m.count as u64);
-            show_material(material);
+            show_material(m.material);
         }
-        MapAnswer::Refused(r) => {
-            refused(r);
-        }
+        Err(r) => refused(r),
     }
     say(b"\n");
 }
@@ -151,64 +116,67 @@ fn show_stream(s: &[u8]) {
     show_seek(s, 0, 4294967296);
 }
 
-fn stream_file(rt: &HostRuntime, path: &[u8]) {
-    let mut buffer = [0u8; 131072];
-    let n = load(rt, path, &mut buffer);
-    say(path);
+// A file's first bytes, as many as the buffer takes, shown behind a name.
+fn show_file<Show: Fn(&[u8])>(
+    rt: &HostRuntime,
+    buffer: &mut [u8],
+    path: &[u8],
+    name: &[u8],
+    show: Show,
+)
+    requires { Show.IsAlwaysCallable show }
+{
+    let n = load(rt, path, buffer);
+    say(name);
     say(b": ");
-    show_stream(&buffer[0..n]);
+    show(&buffer[..n]);
+}
+
+fn stream_file(rt: &HostRuntime, path: &[u8]) {
+    show_file(rt, &mut [0u8; 131072], path, path, show_stream);
 }
 
 fn check_file(rt: &HostRuntime, path: &[u8]) {
-    let mut buffer = [0u8; 4096];
-    let n = load(rt, path, &mut buffer);
-    say(path);
-    say(b": ");
-    show_check(&buffer[0..n]);
+    show_file(rt, &mut [0u8; 4096], path, path, show_check);
 }
 
 // What the listing prints of a stream.
 fn list_file(rt: &HostRuntime, path: &[u8]) {
-    let mut buffer = [0u8; 4096];
-    let n = load(rt, path, &mut buffer);
     say(b"list ");
-    say(path);
-    say(b": ");
-    lister::list(&buffer[0..n]);
+    show_file(rt, &mut [0u8; 4096], path, path, lister::list);
 }
 
 // The rate of an auxiliary text, its bits held to those that were computed outside.
 fn show_rate(text: &[u8], want: u64) {
-    match mpeg::read(text) {
-        MpegAnswer::Given(p) => {
-            let br = p.br;
-            match br {
-                ParameterValue::Rate(x) => {
-                    if console::bits_of(x) == want {
-                        say(b"the float computed outside\n");
-                        return;
-                    }
-                    say(b"another float than the one computed outside\n");
-                }
-                ParameterValue::Whole(_) => {
-                    say(b"a whole number\n");
-                }
-            }
-        }
-        MpegAnswer::Refused(r) => {
+    let p = match mpeg::read(text) {
+        Ok(p) => p,
+        Err(r) => {
             refused(r);
             say(b"\n");
+            return;
         }
+    };
+    match p.br {
+        ParameterValue::Rate(x) => {
+            if console::bits_of(x) == want {
+                say(b"the float computed outside\n");
+            } else {
+                say(b"another float than the one computed outside\n");
+            }
+        }
+        ParameterValue::Whole(_) => say(b"a whole number\n"),
     }
 }
 
 fn rate_file(rt: &HostRuntime, path: &[u8], value: &[u8], want: u64) {
-    let mut buffer = [0u8; 256];
-    let n = load(rt, path, &mut buffer);
     say(b"Br ");
-    say(value);
-    say(b": ");
-    show_rate(&buffer[0..n], want);
+    show_file(
+        rt,
+        &mut [0u8; 256],
+        path,
+        value,
+        |text| show_rate(text, want),
+    );
 }
 
 // The bits of a rate that is refused are not looked at.

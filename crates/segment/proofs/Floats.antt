@@ -7,9 +7,9 @@ use lib.Dec.{eqb}
 use lib.Ieee as Ieee
 use lib.Ieee.{Float, binary64}
 use borrow.Author.Tests.{eq-eqb, ne_eqb, eqb-true}
+use Rattle.std.specs.Prelude.{Some, None}
 use Rattle.plate.specs.Choice.{pick}
 use Rattle.segment.specs.Segment.{number_of, in_range, level_of}
-use Rattle.segment.specs.declared.Level.TheVariants as level
 
 module _ (b : ℕ) where
   -- the magnitude is its exponent's field and its digits
@@ -35,18 +35,18 @@ module _ (b : ℕ) where
       rw (eq-eqb _ _ f, ne_eqb _ _ z)
 
 -- a level by the float that it is
-pub level_is : (b : ℕ) (x : Float) → number_of b ≡ level.Is x → in_range x ≡ level_of b
+pub level_is : (b : ℕ) (x : Float) → number_of b ≡ Some x → in_range x ≡ level_of b
 unfolding number_of level_of
 level_is b x = go (Ieee.nan_bits binary64 b)
   where
-    go : (a : Bool) → pick a level.Absent (level.Is (Ieee.of_bits binary64 b)) ≡ level.Is x → in_range x ≡ pick a level.Absent (in_range (Ieee.of_bits binary64 b))
+    go : (a : Bool) → pick a None (Some (Ieee.of_bits binary64 b)) ≡ Some x → in_range x ≡ pick a None (in_range (Ieee.of_bits binary64 b))
     go true e = absurd (let z : ◌≡◌ {A = ℕ} 0 1 = cc in omega arith)
     go false e = let f : Ieee.of_bits binary64 b ≡ x = cc in rw f
 
-pub level_none : (b : ℕ) → number_of b ≡ level.Absent → level.Absent ≡ level_of b
+pub level_none : (b : ℕ) → number_of b ≡ None → None ≡ level_of b
 unfolding number_of level_of
 level_none b = go (Ieee.nan_bits binary64 b)
   where
-    go : (a : Bool) → pick a level.Absent (level.Is (Ieee.of_bits binary64 b)) ≡ level.Absent → level.Absent ≡ pick a level.Absent (in_range (Ieee.of_bits binary64 b))
+    go : (a : Bool) → pick a None (Some (Ieee.of_bits binary64 b)) ≡ None → None ≡ pick a None (in_range (Ieee.of_bits binary64 b))
     go true e = refl
     go false e = absurd (let z : ◌≡◌ {A = ℕ} 0 1 = cc in omega arith)

@@ -1,6 +1,5 @@
 -- What a name is, byte by byte (RDD 14, Table 19 and the STRING of Table 1): so that `name_from`, which walks, need not be believed.
-use Rattle.std.specs.Prelude.{ℕ, ◌<◌, ◌≤◌, ◌≡◌, List, length, get_or}
-use Rattle.map_items.specs.declared.Part.TheVariants.{At, Absent}
+use Rattle.std.specs.Prelude.{ℕ, ◌<◌, ◌≤◌, ◌≡◌, List, length, get_or, Some, None}
 use Rattle.segment.specs.Segment.{name_from}
 
 -- the first 00 of s is at m, and all before it is ASCII
@@ -12,8 +11,8 @@ pub record EndsAt (s : List ℕ) (m : ℕ) : Type 0 where
 -- bytes that begin at place q
 pub record NameSays (q : ℕ) (s : List ℕ) : Type 0 where
   -- a name that is shown begins there and is what stands before the first 00
-  pub shown : (a m : ℕ) → name_from q 0 s ≡ At a m → (a ≡ q) × EndsAt s m
+  pub shown : (a m : ℕ) → name_from q 0 s ≡ Some (record { at = a; len = m }) → (a ≡ q) × EndsAt s m
   -- wherever there is one it is shown, an empty one too
-  pub there : (m : ℕ) → EndsAt s m → name_from q 0 s ≡ At q m
+  pub there : (m : ℕ) → EndsAt s m → name_from q 0 s ≡ Some (record { at = q; len = m })
   -- so it is absent just where there is none
-  pub absent : name_from q 0 s ≡ Absent → (m : ℕ) → EndsAt s m → ⊥
+  pub absent : name_from q 0 s ≡ None → (m : ℕ) → EndsAt s m → ⊥

@@ -1,6 +1,6 @@
 -- What a media description says of a segment (RDD 14, Table 19 and its notes; 02, §1).
 -- The table's lists are data, and one rule goes by them: a value outside its list counts as absent. Numbers without a list are as stored, reserved words are left out.
-use Rattle.std.specs.Prelude.{ℕ, ◌+◌, ◌/◌, ◌%◌, Bool, true, false, List, [], ◌∷◌, take, drop, eqb, ltb, pos, Float}
+use Rattle.std.specs.Prelude.{ℕ, ◌+◌, ◌/◌, ◌%◌, Bool, true, false, List, [], ◌∷◌, take, drop, eqb, ltb, pos, Float, Option, Some, None, Result, Ok, Err}
 use Rattle.std.specs.Float.Ieee as Ieee
 use Rattle.std.specs.Float.{fin, binary64}
 use Rattle.plate.specs.Choice.{pick, within}
@@ -8,22 +8,18 @@ use Rattle.plate.specs.Plate.{refusal}
 use Rattle.number.specs.Number.{le}
 use Rattle.map_items.specs.Judge.{has}
 use Rattle.map_items.specs.Find.{missing, found}
-use Rattle.map_items.specs.declared.Part.{Part}
-use Rattle.map_items.specs.declared.Part.TheVariants as part
-use Rattle.map_answer.specs.declared.Value.{Value}
 use Rattle.umf.specs.Umf.{Asked, refused, answered, asked_at}
 use Rattle.umf.specs.declared.Described.TheVariants.{Segments}
 use Rattle.umf_answer.specs.Says.{shown_if, track_shown}
-use Rattle.segment.specs.declared.Level.{Level}
-use Rattle.segment.specs.declared.Level.TheVariants as level
 use Rattle.segment.specs.declared.Mpeg.{Mpeg}
 use Rattle.segment.specs.declared.Audio.{Audio}
 use Rattle.segment.specs.declared.Jpeg.{Jpeg}
 use Rattle.segment.specs.declared.Specification.{Specification}
 use Rattle.segment.specs.declared.Specification.TheVariants as specification
 use Rattle.segment.specs.declared.Segment.{Segment}
-use Rattle.segment.specs.declared.SegmentAnswer.{SegmentAnswer}
-use Rattle.segment.specs.declared.SegmentAnswer.TheVariants as segment
+use Rattle.map_items.specs.declared.Part.{Part}
+use Rattle.plate.specs.declared.Refusal.{Refusal}
+use Rattle.plate.specs.declared.Fault.TheVariants as fault
 
 -- the values that a field may have: any, or those of a list
 pub data Values : Type 0 where
@@ -34,7 +30,7 @@ unfoldable pub allowed : Values → ℕ → Bool
 allowed any n = true
 allowed (one_of l) n = has n l
 
-abbrev pub shown : Values → ℕ → Value
+abbrev pub shown : Values → ℕ → Option ℕ
 shown v n = shown_if (allowed v n) n
 
 -- the type of media track: 1 Motion JPEG, 2 audio, 3 time code, 4 MPEG-2 SD, 5 DV 25, 6 DV 50, 7 MPEG-2 HD, 8 ancillary data, 9 MPEG-1, 10 DV 100, 11 AVC-Intra
@@ -91,8 +87,8 @@ abbrev pub avc_mask : ℕ → Bool
 avc_mask n = is_mask (0 ∷ []) (0 ∷ 2 ∷ []) n
 
 -- FLOAT64 by its bits; one that is not a number counts as absent
-unfoldable pub number_of : ℕ → Level
-number_of b = pick (Ieee.nan_bits binary64 b) level.Absent (level.Is (Ieee.of_bits binary64 b))
+unfoldable pub number_of : ℕ → Option Float
+number_of b = pick (Ieee.nan_bits binary64 b) None (Some (Ieee.of_bits binary64 b))
 
 -- 0.0 and 8.0
 abbrev pub lowest : Float
@@ -102,11 +98,11 @@ abbrev pub highest : Float
 highest = fin false 1 (pos 3)
 
 -- the level of an audio segment, 0.0 to 8.0 as floats compare; outside of that it counts as absent, and is not brought to an end of the range
-unfoldable pub in_range : Float → Level
-in_range x = pick (Ieee.le lowest x) (pick (Ieee.le x highest) (level.Is x) level.Absent) level.Absent
+unfoldable pub in_range : Float → Option Float
+in_range x = pick (Ieee.le lowest x) (pick (Ieee.le x highest) (Some x) None) None
 
-unfoldable pub level_of : ℕ → Level
-level_of b = pick (Ieee.nan_bits binary64 b) level.Absent (in_range (Ieee.of_bits binary64 b))
+unfoldable pub level_of : ℕ → Option Float
+level_of b = pick (Ieee.nan_bits binary64 b) None (in_range (Ieee.of_bits binary64 b))
 
 -- the specification, 32 bytes from 128 on
 unfoldable pub mpeg_of : List ℕ → Mpeg
@@ -128,23 +124,23 @@ unfoldable pub jpeg_of : List ℕ → Jpeg
 jpeg_of d = record { most_color = number_of (le d 128 8); most_luma = number_of (le d 136 8); least_color = number_of (le d 144 8); least_luma = number_of (le d 152 8) }
 
 -- by type: 4, 7, 9 MPEG; 3 time code; 2 audio; 5, 6, 10 DV; 11 AVC-Intra; 1 Motion JPEG; 8 ancillary data, all reserved
-unfoldable pub specification_of : ℕ → List ℕ → Specification
+unfoldable pub specification_of : ℕ → List ℕ → Option Specification
 specification_of t d =
-    pick (has t (4 ∷ 7 ∷ 9 ∷ [])) (specification.OfMpeg (mpeg_of d))
-    (pick (eqb t 3) (specification.OfTimeCode (shown (one_of drops) (le d 128 4)))
-    (pick (eqb t 2) (specification.OfAudio (audio_of d))
-    (pick (has t (5 ∷ 6 ∷ 10 ∷ [])) (specification.OfDv (shown_if (dv_mask (le d 128 4)) (le d 128 4)))
-    (pick (eqb t 11) (specification.OfAvc (shown_if (avc_mask (le d 128 4)) (le d 128 4)))
-    (pick (eqb t 1) (specification.OfJpeg (jpeg_of d))
-    (pick (eqb t 8) specification.OfAncillary specification.Absent))))))
+    pick (has t (4 ∷ 7 ∷ 9 ∷ [])) (Some (specification.OfMpeg (mpeg_of d)))
+    (pick (eqb t 3) (Some (specification.OfTimeCode (shown (one_of drops) (le d 128 4))))
+    (pick (eqb t 2) (Some (specification.OfAudio (audio_of d)))
+    (pick (has t (5 ∷ 6 ∷ 10 ∷ [])) (Some (specification.OfDv (shown_if (dv_mask (le d 128 4)) (le d 128 4))))
+    (pick (eqb t 11) (Some (specification.OfAvc (shown_if (avc_mask (le d 128 4)) (le d 128 4))))
+    (pick (eqb t 1) (Some (specification.OfJpeg (jpeg_of d)))
+    (pick (eqb t 8) (Some specification.OfAncillary) None))))))
 
 -- STRING (Table 1): the bytes before the first 00, ASCII; of bytes that begin at place q, n being passed: where it stands, and its length without the 00; absent where there is no 00, or a byte over 7F before it
-unfoldable pub name_from : ℕ → ℕ → List ℕ → Part
-name_from q n [] = part.Absent
-name_from q n (b ∷ s) = pick (eqb b 0) (part.At q n) (pick (ltb 0x7F b) part.Absent (name_from q (n + 1) s))
+unfoldable pub name_from : ℕ → ℕ → List ℕ → Option Part
+name_from q n [] = None
+name_from q n (b ∷ s) = pick (eqb b 0) (Some (record { at = q; len = n })) (pick (ltb 0x7F b) None (name_from q (n + 1) s))
 
 -- the source device media file name: 88 bytes from 24 on
-abbrev pub name_of : ℕ → List ℕ → Part
+abbrev pub name_of : ℕ → List ℕ → Option Part
 name_of q d = name_from (q + 24) 0 (take 88 (drop 24 d))
 
 -- a media description's bytes, which begin at place q of the packet
@@ -164,10 +160,10 @@ segment_of q d =
     }
 
 -- number n of the UMF packet at a position; 16 where there is no such
-abbrev pub segment_in : Asked → SegmentAnswer
-segment_in (refused r) = segment.Refused r
-segment_in (answered missing) = segment.Refused (refusal 16 0)
-segment_in (answered (found q d)) = segment.Says (segment_of q d)
+abbrev pub segment_in : Asked → Result Segment Refusal
+segment_in (refused r) = Err r
+segment_in (answered missing) = Err (refusal fault.NotThere 0)
+segment_in (answered (found q d)) = Ok (segment_of q d)
 
-unfoldable pub segment_at : List ℕ → ℕ → ℕ → SegmentAnswer
+unfoldable pub segment_at : List ℕ → ℕ → ℕ → Result Segment Refusal
 segment_at s at n = segment_in (asked_at s at Segments n)

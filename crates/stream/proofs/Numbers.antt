@@ -7,25 +7,20 @@ use mathlib.Core.Logic.{◌⊎◌, inl, inr}
 use native.Mathlib.Omega.{arith}
 use lib.ListN.{length, replicate}
 use lib.Dec.{ltb, eqb}
+use Rattle.std.specs.Prelude.{Option, Some, None, Result, Ok, Err}
+use Rattle.plate.specs.Plate.{number}
 use Rattle.plate.specs.declared.Refusal.{Refusal}
 use Rattle.plate.proofs.Numbers.{either, Among, wider}
 use Rattle.piece.specs.Piece.{piece_at}
-use Rattle.piece.specs.declared.PieceAnswer.{PieceAnswer}
-use Rattle.piece.specs.declared.PieceAnswer.TheVariants as piece
 use Rattle.piece.proofs.Numbers.{PieceFault, OfPiece, piece_numbers}
 use Rattle.order.specs.Order.{started}
 use Rattle.order.specs.declared.Progress.{Progress}
 use Rattle.order.specs.declared.Step.{Step}
 use Rattle.order.specs.declared.Step.TheVariants as step
+use Rattle.piece.specs.declared.Piece.{Piece}
 use Rattle.order.proofs.Numbers.{OfStep, step_numbers}
 use Rattle.stream.specs.Stream.{Placed, End, closed, runs_out, stops, Packets, types_after, on_piece, packets_from, packets, ran_out, on_step, type_for, step_at, judge_packets, check_of, first_of, or_not_there, if_checked, seek_of}
 use Rattle.stream.specs.WrongForm.{CheckNumber}
-use Rattle.stream.specs.declared.Spot.{Spot}
-use Rattle.stream.specs.declared.Spot.TheVariants as spot
-use Rattle.stream.specs.declared.CheckAnswer.{CheckAnswer}
-use Rattle.stream.specs.declared.CheckAnswer.TheVariants as check
-use Rattle.stream.specs.declared.SeekAnswer.{SeekAnswer}
-use Rattle.stream.specs.declared.SeekAnswer.TheVariants as seek
 
 abbrev pub CheckFault : Refusal → Type 0
 CheckFault r = Among 1 5 r ⊎ (Among 7 12 r ⊎ (Among 14 15 r ⊎ (Among 17 22 r ⊎ Among 29 29 r)))
@@ -41,7 +36,7 @@ of_fault r (inr (inr (inr (inl h)))) = late 17 17 r (omega arith) (omega arith) 
 of_fault r (inr (inr (inr (inr h)))) = inr (inr (inr (inr h)))
 
 -- the numbers alone, and in one range
-pub fault_number : (r : Refusal) → CheckFault r → CheckNumber r.number
+pub fault_number : (r : Refusal) → CheckFault r → CheckNumber (number r)
 fault_number r (inl h) = inl (h.0, h.1)
 fault_number r (inr (inl h)) = inr (inl (h.0, h.1))
 fault_number r (inr (inr (inl h))) = inr (inr (inl (h.0, h.1)))
@@ -70,14 +65,14 @@ packets_numbers s zero first types at = tt
 packets_numbers s (suc f) first types at =
     either Ends (ltb at (length s)) (go (λ now_types next. packets_from s f false now_types next) (λ now_types next. packets_numbers s f false now_types next) (piece_at s at first) (piece_numbers s at first)) tt
   where
-    go : (next : List ℕ → ℕ → Packets) → ((ts : List ℕ) (o : ℕ) → Ends (next ts o)) → (a : PieceAnswer) → OfPiece a → Ends (on_piece s at types next a)
-    go next k (piece.Refused r) h = of_fault r h
-    go next k (piece.Whole x) h = either Ends (eqb x.packet_type 0xFB) tt (k (types_after s at x types) (at + x.len))
+    go : (next : List ℕ → ℕ → Packets) → ((ts : List ℕ) (o : ℕ) → Ends (next ts o)) → (a : Result Piece Refusal) → OfPiece a → Ends (on_piece s at types next a)
+    go next k (Err r) h = of_fault r h
+    go next k (Ok x) h = either Ends (eqb x.packet_type 0xFB) tt (k (types_after s at x types) (at + x.len))
 
 -- ---- the check
-abbrev pub OfCheck : CheckAnswer → Type 0
-OfCheck (check.Packets n) = Unit {0}
-OfCheck (check.Refused r) = CheckFault r
+abbrev pub OfCheck : Result ℕ Refusal → Type 0
+OfCheck (Ok n) = Unit {0}
+OfCheck (Err r) = CheckFault r
 
 pub out_numbers : (count n : ℕ) → Among 17 18 (ran_out count n)
 unfolding ran_out
@@ -91,10 +86,10 @@ judge_numbers n [] (stops r) h p = h
 judge_numbers n (x ∷ xs) e h p =
     go (λ q. judge_packets n q xs e) (judge_numbers n xs e h) (step_at n p x) (step_numbers p x.piece x.at (type_for x.types x.piece.track) (ltb (x.at + x.piece.len) n))
   where
-    go : (next : Progress → CheckAnswer) → ((q : Progress) → OfCheck (next q)) → (a : Step) → OfStep a → OfCheck (on_step next a)
-    go next k (step.Next q) i = k q
-    go next k (step.Ended m) i = tt
-    go next k (step.Refused r) i = late 18 22 r (omega arith) (omega arith) i
+    go : (next : Progress → Result ℕ Refusal) → ((q : Progress) → OfCheck (next q)) → (a : Result Step Refusal) → OfStep a → OfCheck (on_step next a)
+    go next k (Ok (step.Next q)) i = k q
+    go next k (Ok (step.Ended m)) i = tt
+    go next k (Err r) i = late 18 22 r (omega arith) (omega arith) i
 
 pub check_numbers : (s : List ℕ) → OfCheck (check_of s)
 unfolding check_of packets
@@ -103,15 +98,15 @@ check_numbers s =
     (packets_numbers s (suc (length s)) true (replicate 64 0) 0) started
 
 -- ---- seek
-abbrev pub OfSeek : SeekAnswer → Type 0
-OfSeek (seek.At o) = Unit {0}
-OfSeek (seek.Refused r) = Among 1 29 r
+abbrev pub OfSeek : Result ℕ Refusal → Type 0
+OfSeek (Ok o) = Unit {0}
+OfSeek (Err r) = Among 1 29 r
 
 pub seek_numbers : (s : List ℕ) (track field : ℕ) → OfSeek (seek_of s track field)
 unfolding seek_of
 seek_numbers s track field = go (check_of s) (check_numbers s) (first_of track field (packets s).list)
   where
-    go : (a : CheckAnswer) → OfCheck a → (o : Spot) → OfSeek (if_checked a (or_not_there o))
-    go (check.Refused r) h o = in_one r h
-    go (check.Packets n) h (spot.At o) = tt
-    go (check.Packets n) h spot.Nothing = (omega arith, omega arith, λ n. refl)
+    go : (a : Result ℕ Refusal) → OfCheck a → (o : Option ℕ) → OfSeek (if_checked a (or_not_there o))
+    go (Err r) h o = in_one r h
+    go (Ok n) h (Some o) = tt
+    go (Ok n) h None = (omega arith, omega arith, λ n. refl)

@@ -8,6 +8,7 @@ use native.Mathlib.Omega.{arith}
 use lib.ListN.{length, get_or, replicate}
 use lib.Dec.{eqb, ltb}
 use borrow.Author.Tests.{eq-eqb, ne_eqb, eqb-true, eqb-false}
+use Rattle.std.specs.Prelude.{Some, Result, Ok, Err}
 use Rattle.plate.specs.Choice.{pick}
 use Rattle.plate.specs.Ended.{none}
 use Rattle.plate.proofs.Tests.{no_choice}
@@ -20,22 +21,18 @@ use Rattle.map_answer.specs.Answer.{is_progressive}
 use Rattle.map_answer.specs.declared.Track.{Track}
 use Rattle.map_answer.specs.declared.Code.TheVariants as code
 use Rattle.map_tracks.specs.Tracks.{id_of}
-use Rattle.map_tracks.specs.declared.Kth.TheVariants as kth
 use Rattle.map_tracks.proofs.Table.{Unmarked}
 use Rattle.map.specs.Map.{listed_in, types_in}
 use Rattle.map.proofs.Table.{table, plain_types, empty_plain}
 use Rattle.piece.specs.Piece.{piece_at}
 use Rattle.piece.specs.declared.Piece.{Piece}
-use Rattle.piece.specs.declared.PieceAnswer.{PieceAnswer}
-use Rattle.piece.specs.declared.PieceAnswer.TheVariants as piece
+use Rattle.plate.specs.declared.Refusal.{Refusal}
 use Rattle.piece.proofs.Laws.{told}
 use Rattle.piece.proofs.Fields.{field_fits}
 use Rattle.piece.proofs.Maps.{map_accepted}
 use Rattle.stream.specs.Stream.{Placed, closed, runs_out, types_after, on_piece, packets_from, packets, check_of, carries_as, carries, first_of, seek_of}
-use Rattle.stream.specs.Sought.{None}
+use Rattle.stream.specs.Sought.{NoneCarries}
 use Rattle.stream.specs.OddFields.{Media, Progressive, Carries, states, first_stated, seek_stated, NotProgressive, NoMap, Latest, bytes_of, NeverOne, AnswersBy, OddFields}
-use Rattle.stream.specs.declared.Spot.TheVariants as spot
-use Rattle.stream.specs.declared.CheckAnswer.TheVariants as check
 
 -- which fields a number is
 own_field : (two : Bool) (number : ℕ) → is_field two number number ≡ true
@@ -129,7 +126,7 @@ module _ (s : List ℕ) where
   -- a packet stands where it says, behind an offset, with the table that the packets before it leave it
   record There (at : ℕ) (types : List ℕ) (x : Placed) : Type 0 where
     first : Bool
-    whole : piece_at s x.at first ≡ piece.Whole x.piece
+    whole : piece_at s x.at first ≡ Ok x.piece
     behind : at ≤ x.at
     says : x.types ≡ types_after s x.at x.piece types
 
@@ -146,11 +143,11 @@ module _ (s : List ℕ) where
   there_from zero first types at = tt
   there_from (suc f) first types at = step (λ ts k. there_from f false ts k) (ltb at (length s)) (piece_at s at first) refl
     where
-      step : ((ts : List ℕ) (k : ℕ) → AllThere k ts (packets_from s f false ts k).list) → (t : Bool) (a : PieceAnswer) → piece_at s at first ≡ a
+      step : ((ts : List ℕ) (k : ℕ) → AllThere k ts (packets_from s f false ts k).list) → (t : Bool) (a : Result Piece Refusal) → piece_at s at first ≡ a
           → AllThere at types (pick t (on_piece s at types (λ now_types next. packets_from s f false now_types next) a) (none runs_out)).list
       step ih false a q = tt
-      step ih true (piece.Refused r) q = tt
-      step ih true (piece.Whole x) q = (record { first = first; whole = q; behind = omega arith; says = refl }, by (eqb x.packet_type 0xFB))
+      step ih true (Err r) q = tt
+      step ih true (Ok x) q = (record { first = first; whole = q; behind = omega arith; says = refl }, by (eqb x.packet_type 0xFB))
         where
           now_types : List ℕ
           now_types = types_after s at x types
@@ -189,7 +186,7 @@ module _ (s : List ℕ) where
         let w = map_there.2 in
         stays m.at m.types l.between x l.after w.1 l.no_map l.none ∙ w.0.says ∙ rw (eq-eqb m.piece.packet_type type_map l.map)
 
-    by_map : (t : Track) → id_of x.piece.track (listed_in (bytes_of s m)) ≡ kth.Record t → has_mark (get_or x.types x.piece.track 0) ≡ is_progressive t.fields
+    by_map : (t : Track) → id_of x.piece.track (listed_in (bytes_of s m)) ≡ Some t → has_mark (get_or x.types x.piece.track 0) ≡ is_progressive t.fields
     by_map t e =
         let w = map_there.2 in
         let g = (one_there m.at m.types l.between x l.after w.1).1 in
@@ -199,17 +196,17 @@ module _ (s : List ℕ) where
 
   -- the first carrier is no later than any
   first_by : (track field at : ℕ) (types : List ℕ) (before : List Placed) (x : Placed) (after : List Placed) → AllThere at types (before ++ (x ∷ after)) → carries track field x ≡ true
-      → (o : ℕ) × (first_of track field (before ++ (x ∷ after)) ≡ spot.At o) × (o ≤ x.at)
+      → (o : ℕ) × (first_of track field (before ++ (x ∷ after)) ≡ Some o) × (o ≤ x.at)
   unfolding first_of
   first_by track field at types [] x after a c = (x.at, rw c, omega arith)
   first_by track field at types (y ∷ ys) x after a c = go (carries track field y) (one_there y.at y.types ys x after a.1).1.behind (first_by track field y.at y.types ys x after a.1 c)
     where
-      go : (b : Bool) → y.at ≤ x.at → (o : ℕ) × (first_of track field (ys ++ (x ∷ after)) ≡ spot.At o) × (o ≤ x.at)
-          → (o : ℕ) × (pick b (spot.At y.at) (first_of track field (ys ++ (x ∷ after))) ≡ spot.At o) × (o ≤ x.at)
+      go : (b : Bool) → y.at ≤ x.at → (o : ℕ) × (first_of track field (ys ++ (x ∷ after)) ≡ Some o) × (o ≤ x.at)
+          → (o : ℕ) × (pick b (Some y.at) (first_of track field (ys ++ (x ∷ after))) ≡ Some o) × (o ≤ x.at)
       go true h r = (y.at, refl, h)
       go false h r = r
 
-  module _ (n : ℕ) (accepted : check_of s ≡ check.Packets n) where
+  module _ (n : ℕ) (accepted : check_of s ≡ Ok n) where
     answers_by : (track field : ℕ) (before : List Placed) (x : Placed) (after : List Placed) → (packets s).list ≡ before ++ (x ∷ after) → carries track field x ≡ true → AnswersBy (seek_of s track field) x.at
     unfolding seek_of
     answers_by track field before x after e c =
@@ -265,7 +262,7 @@ pub no_packet : (s : List ℕ) (track : ℕ) → NeverOne s (packets s).list →
 no_packet s track n = never s track 0 (replicate 64 0) (packets s).list (all_there s) n empty_plain
 
 -- fields over 32 bits
-narrow_from : (s : List ℕ) → Bytes s → (track field at : ℕ) (types : List ℕ) → 2 ^ 32 ≤ field → (xs : List Placed) → AllThere s at types xs → None track field xs
+narrow_from : (s : List ℕ) → Bytes s → (track field at : ℕ) (types : List ℕ) → 2 ^ 32 ≤ field → (xs : List Placed) → AllThere s at types xs → NoneCarries track field xs
 narrow_from s b track field at types h [] a = tt
 narrow_from s b track field at types h (x ∷ xs) a =
     let number = x.piece.field in

@@ -9,50 +9,49 @@ use lib.ListN.{length, take, drop, replicate, length-drop, take-append-drop}
 use lib.Seq.{length-take-le}
 use lib.Dec.{ltb, eqb}
 use borrow.Author.Tests.{lt-ltb}
+use Rattle.std.specs.Prelude.{Result, Ok, Err}
 use Rattle.plate.specs.Choice.{pick}
 use Rattle.plate.specs.Ended.{none}
-use Rattle.plate.specs.Plate.{refusal}
+use Rattle.plate.specs.Plate.{refusal, number}
 use Rattle.plate.specs.declared.Refusal.{Refusal}
 use Rattle.packet.proofs.Laws.{whole}
 use Rattle.map.specs.Map.{map_verdict}
 use Rattle.piece.specs.Piece.{moved, of_map, content_of, opens, piece_at}
-use Rattle.piece.specs.declared.PieceAnswer.{PieceAnswer}
-use Rattle.piece.specs.declared.PieceAnswer.TheVariants as piece
 use Rattle.piece.specs.declared.Piece.{Piece}
 use Rattle.piece.proofs.Numbers.{OfWrongForm, wrong_form_piece}
 use Rattle.order.specs.Order.{started}
 use Rattle.order.specs.declared.Progress.{Progress}
 use Rattle.order.specs.declared.Step.{Step}
 use Rattle.order.specs.declared.Step.TheVariants as step
+use Rattle.plate.specs.declared.Fault.TheVariants as fault
 use Rattle.order.proofs.Numbers.{OfStep, step_numbers}
 use Rattle.stream.specs.Stream.{Placed, End, closed, runs_out, stops, types_after, on_piece, packets_from, packets, ran_out, on_step, type_for, step_at, judge_packets, check_of}
 use Rattle.stream.specs.WrongForm.{CheckNumber, StreamWrongForm, MapThere, FirstMap}
-use Rattle.stream.specs.declared.CheckAnswer.TheVariants as check
 use Rattle.stream.specs.Lacking.{CheckRefuses, bytes_of}
 use Rattle.stream.proofs.RunsOut.{refused_behind}
 use Rattle.stream.proofs.Numbers.{fault_number, OfCheck, out_numbers, check_numbers}
 
-not_out : {X : Type 0} (r : Refusal) → r.number ≡ 29 → (count n : ℕ) → check.Refused (ran_out count n) ≡ check.Refused r → X
-not_out r k count n e = let q : ran_out count n ≡ r = cc in absurd (let z : (ran_out count n).number ≡ 29 = ap (λ (x : Refusal). x.number) q ∙ k in omega (arith, (out_numbers count n).1))
+not_out : {X : Type 0} (r : Refusal) → number r ≡ 29 → (count n : ℕ) → ◌≡◌ {A = Result ℕ Refusal} (Err (ran_out count n)) (Err r) → X
+not_out r k count n e = let q : ran_out count n ≡ r = cc in absurd (let z : number (ran_out count n) ≡ 29 = ap (λ (x : Refusal). (number x)) q ∙ k in omega (arith, (out_numbers count n).1))
 
 -- 29 is no step's: the packets stop with it
-stops_there : (r : Refusal) → r.number ≡ 29 → (n : ℕ) (p : Progress) (xs : List Placed) (e : End) → judge_packets n p xs e ≡ check.Refused r → e ≡ stops r
+stops_there : (r : Refusal) → number r ≡ 29 → (n : ℕ) (p : Progress) (xs : List Placed) (e : End) → judge_packets n p xs e ≡ Err r → e ≡ stops r
 unfolding judge_packets
 stops_there r k n p [] closed h = not_out r k p.count n h
 stops_there r k n p [] runs_out h = not_out r k p.count n h
 stops_there r k n p [] (stops q) h = let z : q ≡ r = cc in ap stops z
 stops_there r k n p (x ∷ xs) e h = go (step_at n p x) refl (λ q. stops_there r k n q xs e) h
   where
-    go : (a : Step) → step_at n p x ≡ a → ((q : Progress) → judge_packets n q xs e ≡ check.Refused r → e ≡ stops r) → on_step (λ q. judge_packets n q xs e) a ≡ check.Refused r → e ≡ stops r
-    go (step.Next q) f later h = later q h
-    go (step.Ended m) f later h = absurd (let z : ◌≡◌ {A = ℕ} 0 1 = cc in omega arith)
-    go (step.Refused q) f later h =
+    go : (a : Result Step Refusal) → step_at n p x ≡ a → ((q : Progress) → judge_packets n q xs e ≡ Err r → e ≡ stops r) → on_step (λ q. judge_packets n q xs e) a ≡ Err r → e ≡ stops r
+    go (Ok (step.Next q)) f later h = later q h
+    go (Ok (step.Ended m)) f later h = absurd (let z : ◌≡◌ {A = ℕ} 0 1 = cc in omega arith)
+    go (Err q) f later h =
         let z : q ≡ r = cc in
         let b = subst OfStep f (step_numbers p x.piece x.at (type_for x.types x.piece.track) (ltb (x.at + x.piece.len) n)) in
-        absurd (let m : q.number ≡ 29 = ap (λ (y : Refusal). y.number) z ∙ k in omega (arith, b.1))
+        absurd (let m : number q ≡ 29 = ap (λ (y : Refusal). (number y)) z ∙ k in omega (arith, b.1))
 
 -- the packet that they stop at stands behind those that passed
-stopped_at : (s : List ℕ) (r : Refusal) → r.number ≡ 29 → (f : ℕ) (first : Bool) (types : List ℕ) (at : ℕ) → (packets_from s f first types at).end ≡ stops r
+stopped_at : (s : List ℕ) (r : Refusal) → number r ≡ 29 → (f : ℕ) (first : Bool) (types : List ℕ) (at : ℕ) → (packets_from s f first types at).end ≡ stops r
     → OfWrongForm s (at + bytes_of (packets_from s f first types at).list) r
 unfolding packets_from
 stopped_at s r k zero first types at e = absurd (let z : ◌≡◌ {A = ℕ} 0 1 = cc in omega arith)
@@ -66,18 +65,18 @@ stopped_at s r k (suc f) first types at e = go (ltb at (length s)) (piece_at s a
         let o : at + x.len + bytes_of (packets_from s f false (types_after s at x types) (at + x.len)).list ≡ at + (x.len + bytes_of (packets_from s f false (types_after s at x types) (at + x.len)).list) = omega arith in
         rw o at (later (types_after s at x types) (at + x.len) e)
 
-    go : (b : Bool) (a : PieceAnswer) → piece_at s at first ≡ a
+    go : (b : Bool) (a : Result Piece Refusal) → piece_at s at first ≡ a
         → ((now_types : List ℕ) (o : ℕ) → (packets_from s f false now_types o).end ≡ stops r → OfWrongForm s (o + bytes_of (packets_from s f false now_types o).list) r)
         → (pick b (on_piece s at types (λ now_types o. packets_from s f false now_types o) a) (none runs_out)).end ≡ stops r
         → OfWrongForm s (at + bytes_of (pick b (on_piece s at types (λ now_types o. packets_from s f false now_types o) a) (none runs_out)).list) r
     go false a w later e = absurd (let z : ◌≡◌ {A = ℕ} 0 1 = cc in omega arith)
-    go true (piece.Refused q) w later e = let z : q ≡ r = cc in rw add-zero (wrong_form_piece s at first r (w ∙ ap piece.Refused z) k)
-    go true (piece.Whole x) w later e = on x later (eqb x.packet_type 0xFB) e
+    go true (Err q) w later e = let z : q ≡ r = cc in rw add-zero (wrong_form_piece s at first r (w ∙ ap Err z) k)
+    go true (Ok x) w later e = on x later (eqb x.packet_type 0xFB) e
 
-pub check_number : (s : List ℕ) (r : Refusal) → check_of s ≡ check.Refused r → CheckNumber r.number
+pub check_number : (s : List ℕ) (r : Refusal) → check_of s ≡ Err r → CheckNumber (number r)
 check_number s r e = fault_number r (subst OfCheck e (check_numbers s))
 
-pub check_29 : (s : List ℕ) (r : Refusal) → check_of s ≡ check.Refused r → r.number ≡ 29 → StreamWrongForm s r
+pub check_29 : (s : List ℕ) (r : Refusal) → check_of s ≡ Err r → number r ≡ 29 → StreamWrongForm s r
 unfolding check_of packets
 check_29 s r e k =
     let h = stops_there r k (length s) started (packets s).list (packets s).end e in
@@ -89,7 +88,7 @@ check_29 s r e k =
       header = w.header;
       own = w.own;
       verdict = w.verdict;
-      number = sym (ap (λ (x : Refusal). x.number) w.place) ∙ k;
+      number = sym (ap (λ (x : Refusal). (number x)) w.place) ∙ k;
       place = ap (λ (x : Refusal). x.place) w.place;
     }
 
@@ -102,7 +101,7 @@ map_there s at len e h own v =
     let r = refused_behind (take at s) (drop at s) (rw n e) (omega (arith, length-drop at s, w.least, w.within)) (moved at own) (λ first. rw (take-append-drop at s, n, h) (go first)) in
     rw (take-append-drop at s) at r
   where
-    go : (first : Bool) → pick (opens first 0xBC) (of_map at (length (take len (drop at s))) (map_verdict (take len (drop at s)))) (piece.Refused (refusal 17 at)) ≡ piece.Refused (moved at own)
+    go : (first : Bool) → pick (opens first 0xBC) (of_map at (length (take len (drop at s))) (map_verdict (take len (drop at s)))) (Err (refusal fault.NoMapFirst at)) ≡ Err (moved at own)
     go true = rw v
     go false = rw v
 
@@ -112,5 +111,5 @@ unfolding check_of packets packets_from piece_at content_of opens judge_packets
 first_map s len r h v =
     let w = whole s 0 (record { packet_type = 0xBC; len = len }) h in
     let l : 0 < length s = omega (arith, w.least, w.within) in
-    let z : moved 0 r ≡ r = ap (λ (p : ℕ). record { number = r.number; place = p; lacking = r.lacking }) (add-zero r.place) in
-    rw (lt-ltb 0 (length s) l, h, v) (ap check.Refused z)
+    let z : moved 0 r ≡ r = ap (λ (p : ℕ). record { fault = r.fault; place = p; lacking = r.lacking }) (add-zero r.place) in
+    rw (lt-ltb 0 (length s) l, h, v) (ap Err z)

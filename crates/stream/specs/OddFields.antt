@@ -1,5 +1,5 @@
 -- Which fields a packet carries (RDD 14, 4.8; 02, §2), in words, and what is left of 01's "carries". Proved in proofs/OddFields.antt.
-use Rattle.std.specs.Prelude.{ℕ, ◌+◌, ◌^◌, ◌<◌, ◌≤◌, ◌≡◌, Bool, true, false, List, [], ◌∷◌, ◌++◌, ◌⊎◌, get_or, take, drop}
+use Rattle.std.specs.Prelude.{ℕ, ◌+◌, ◌^◌, ◌<◌, ◌≤◌, ◌≡◌, Bool, true, false, List, [], ◌∷◌, ◌++◌, ◌⊎◌, get_or, take, drop, Option, Some, None, Result, Ok}
 use Rattle.plate.specs.Choice.{pick}
 use Rattle.packet.specs.Packet.{type_map, type_media}
 use Rattle.media_type.specs.MediaType.{known_type}
@@ -7,17 +7,12 @@ use Rattle.field.specs.Field.{has_mark, is_even}
 use Rattle.map_answer.specs.Answer.{is_progressive}
 use Rattle.map_answer.specs.declared.Track.{Track}
 use Rattle.map_answer.specs.declared.Code.TheVariants as code
+use Rattle.plate.specs.declared.Refusal.{Refusal}
 use Rattle.map_tracks.specs.Tracks.{id_of}
 use Rattle.map_tracks.specs.Table.{NoneProgressive}
-use Rattle.map_tracks.specs.declared.Kth.TheVariants as kth
 use Rattle.map.specs.Map.{listed_in, types_in}
 use Rattle.stream.specs.Stream.{Placed, packets, check_of, carries_as, carries, or_not_there, if_checked, seek_of}
-use Rattle.stream.specs.Sought.{None}
-use Rattle.stream.specs.declared.Spot.{Spot}
-use Rattle.stream.specs.declared.Spot.TheVariants as spot
-use Rattle.stream.specs.declared.CheckAnswer.TheVariants as check
-use Rattle.stream.specs.declared.SeekAnswer.{SeekAnswer}
-use Rattle.stream.specs.declared.SeekAnswer.TheVariants as seek
+use Rattle.stream.specs.Sought.{NoneCarries}
 
 -- a media packet of known type
 pub record Media (x : Placed) : Type 0 where
@@ -37,11 +32,11 @@ pub record Carries (x : Placed) (These : ℕ → Type 0) : Type 0 where
 abbrev pub states : ℕ → ℕ → Placed → Bool
 states track field x = carries_as false track field x.piece
 
-unfoldable pub first_stated : ℕ → ℕ → List Placed → Spot
-first_stated track field [] = spot.Nothing
-first_stated track field (x ∷ xs) = pick (states track field x) (spot.At x.at) (first_stated track field xs)
+unfoldable pub first_stated : ℕ → ℕ → List Placed → Option ℕ
+first_stated track field [] = None
+first_stated track field (x ∷ xs) = pick (states track field x) (Some x.at) (first_stated track field xs)
 
-unfoldable pub seek_stated : List ℕ → ℕ → ℕ → SeekAnswer
+unfoldable pub seek_stated : List ℕ → ℕ → ℕ → Result ℕ Refusal
 seek_stated s track field = if_checked (check_of s) (or_not_there (first_stated track field (packets s).list))
 
 -- no packet of a track is progressive
@@ -74,13 +69,13 @@ NeverOne s [] = Unit {0}
 NeverOne s (x ∷ xs) = (x.piece.packet_type ≡ type_map → NoneProgressive (listed_in (bytes_of s x))) × NeverOne s xs
 
 -- seek answers, with this offset or a lower one
-abbrev pub AnswersBy : SeekAnswer → ℕ → Type 0
-AnswersBy a at = (o : ℕ) × (a ≡ seek.At o) × (o ≤ at)
+abbrev pub AnswersBy : Result ℕ Refusal → ℕ → Type 0
+AnswersBy a at = (o : ℕ) × (a ≡ Ok o) × (o ≤ at)
 
 pub record OddFields : Type 0 where
   -- a packet goes by the latest map before it: by that map's table, and so it is progressive just where the track that the map lists under its ID has fields per frame 1
   pub latest : (s : List ℕ) (m x : Placed) → Latest s m x → x.types ≡ types_in (bytes_of s m)
-  pub by_map : (s : List ℕ) (m x : Placed) → Latest s m x → (t : Track) → id_of x.piece.track (listed_in (bytes_of s m)) ≡ kth.Record t → has_mark (get_or x.types x.piece.track 0) ≡ is_progressive t.fields
+  pub by_map : (s : List ℕ) (m x : Placed) → Latest s m x → (t : Track) → id_of x.piece.track (listed_in (bytes_of s m)) ≡ Some t → has_mark (get_or x.types x.piece.track 0) ≡ is_progressive t.fields
   -- a media packet of known type: on a progressive track one with an even number carries that field and the one above, one with an odd number that field alone; on any other track one carries the field that its number is
   pub even : (x : Placed) → Media x → Progressive x → is_even x.piece.field ≡ true → Carries x (λ field. (field ≡ x.piece.field) ⊎ (field ≡ x.piece.field + 1))
   pub odd : (x : Placed) → Media x → Progressive x → is_even x.piece.field ≡ false → Carries x (λ field. field ≡ x.piece.field)
@@ -89,12 +84,12 @@ pub record OddFields : Type 0 where
   pub elsewhere : (x : Placed) (track field : ℕ) → (x.piece.track ≡ track → ⊥) → carries track field x ≡ false
   pub no_media : (x : Placed) → (Media x → ⊥) → (track field : ℕ) → carries track field x ≡ false
   -- no packet of bytes carries a field over 32 bits
-  pub narrow : (s : List ℕ) → ((i : ℕ) → get_or s i 0 < 256) → (track field : ℕ) → 2 ^ 32 ≤ field → None track field (packets s).list
+  pub narrow : (s : List ℕ) → ((i : ℕ) → get_or s i 0 < 256) → (track field : ℕ) → 2 ^ 32 ≤ field → NoneCarries track field (packets s).list
   -- the request: of an accepted stream whose latest map gives a packet's track fields per frame 1, the field above its even number is found, at its offset or a lower one
-  pub above : (s : List ℕ) (n : ℕ) → check_of s ≡ check.Packets n → (m x : Placed) → Latest s m x → (t : Track) → id_of x.piece.track (listed_in (bytes_of s m)) ≡ kth.Record t → t.fields ≡ code.Is 1
+  pub above : (s : List ℕ) (n : ℕ) → check_of s ≡ Ok n → (m x : Placed) → Latest s m x → (t : Track) → id_of x.piece.track (listed_in (bytes_of s m)) ≡ Some t → t.fields ≡ code.Is 1
       → Media x → is_even x.piece.field ≡ true → AnswersBy (seek_of s x.piece.track (x.piece.field + 1)) x.at
   -- 16 less often: where a packet of an accepted stream carries the field by 01's word, seek still answers, with its offset or a lower one
-  pub still : (s : List ℕ) (n : ℕ) → check_of s ≡ check.Packets n → (track field : ℕ) (before : List Placed) (x : Placed) (after : List Placed) → (packets s).list ≡ before ++ (x ∷ after)
+  pub still : (s : List ℕ) (n : ℕ) → check_of s ≡ Ok n → (track field : ℕ) (before : List Placed) (x : Placed) (after : List Placed) → (packets s).list ≡ before ++ (x ∷ after)
       → states track field x ≡ true → AnswersBy (seek_of s track field) x.at
   -- the answers are as before for every even field, for every track without a progressive packet, and in every stream whose maps never say 1
   pub even_before : (s : List ℕ) (track field : ℕ) → is_even field ≡ true → seek_of s track field ≡ seek_stated s track field

@@ -3,9 +3,9 @@ use Rattle.std.specs.Prelude.{ℕ, ◌≡◌, true, false, List, [], ◌∷◌, 
 use Rattle.stream.specs.Stream.{Placed, carries}
 
 -- no packet of a list carries the field
-abbrev pub None : ℕ → ℕ → List Placed → Type 0
-None track field [] = Unit {0}
-None track field (x ∷ xs) = (carries track field x ≡ false) × None track field xs
+abbrev pub NoneCarries : ℕ → ℕ → List Placed → Type 0
+NoneCarries track field [] = Unit {0}
+NoneCarries track field (x ∷ xs) = (carries track field x ≡ false) × NoneCarries track field xs
 
 -- a packet of a list stands at an offset and carries the field, and none before it does
 pub record First (track field offset : ℕ) (xs : List Placed) : Type 0 where
@@ -15,4 +15,4 @@ pub record First (track field offset : ℕ) (xs : List Placed) : Type 0 where
   pub all : xs ≡ earlier ++ (it ∷ later)
   pub stands : it.at ≡ offset
   pub carrier : carries track field it ≡ true
-  pub none : None track field earlier
+  pub none : NoneCarries track field earlier

@@ -1,5 +1,5 @@
 -- A stream (RDD 14, clause 5; 01, "Stream, seek, book"): its packets, the check, and seek.
-use Rattle.std.specs.Prelude.{ℕ, zero, suc, ◌+◌, Bool, true, false, List, [], ◌∷◌, length, get_or, take, drop, replicate, eqb, ltb}
+use Rattle.std.specs.Prelude.{ℕ, zero, suc, ◌+◌, Bool, true, false, List, [], ◌∷◌, length, get_or, take, drop, replicate, eqb, ltb, Option, Some, None, Result, Ok, Err, ok_or}
 use Rattle.packet.specs.Packet.{type_eos, type_map, type_media}
 use Rattle.plate.specs.Choice.{pick}
 use Rattle.plate.specs.Ended.{Ended, none, in_front}
@@ -10,18 +10,11 @@ use Rattle.field.specs.Field.{type_alone, carries_two, is_field}
 use Rattle.map.specs.Map.{types_in}
 use Rattle.piece.specs.Piece.{piece_at}
 use Rattle.piece.specs.declared.Piece.{Piece}
-use Rattle.piece.specs.declared.PieceAnswer.{PieceAnswer}
-use Rattle.piece.specs.declared.PieceAnswer.TheVariants as piece
 use Rattle.order.specs.Order.{started, step_of}
 use Rattle.order.specs.declared.Progress.{Progress}
 use Rattle.order.specs.declared.Step.{Step}
 use Rattle.order.specs.declared.Step.TheVariants as step
-use Rattle.stream.specs.declared.Spot.{Spot}
-use Rattle.stream.specs.declared.Spot.TheVariants as spot
-use Rattle.stream.specs.declared.CheckAnswer.{CheckAnswer}
-use Rattle.stream.specs.declared.CheckAnswer.TheVariants as check
-use Rattle.stream.specs.declared.SeekAnswer.{SeekAnswer}
-use Rattle.stream.specs.declared.SeekAnswer.TheVariants as seek
+use Rattle.plate.specs.declared.Fault.TheVariants as fault
 
 -- a packet of a stream: its offset, what it is, and by ID the marked types of the tracks that the latest map lists, its own if it is a map
 pub record Placed : Type 0 where
@@ -43,9 +36,9 @@ abbrev pub types_after : List ℕ → ℕ → Piece → List ℕ → List ℕ
 types_after s at x types = pick (eqb x.packet_type type_map) (types_in (take x.len (drop at s))) types
 
 -- a packet, and what follows it: nothing where it is EOS
-abbrev pub on_piece : List ℕ → ℕ → List ℕ → (List ℕ → ℕ → Packets) → PieceAnswer → Packets
-on_piece s at types next (piece.Refused r) = none (stops r)
-on_piece s at types next (piece.Whole x) =
+abbrev pub on_piece : List ℕ → ℕ → List ℕ → (List ℕ → ℕ → Packets) → Result Piece Refusal → Packets
+on_piece s at types next (Err r) = none (stops r)
+on_piece s at types next (Ok x) =
     in_front (record { at = at; piece = x; types = types_after s at x types })
     (pick (eqb x.packet_type type_eos) (none closed) (next (types_after s at x types) (at + x.len)))
 
@@ -61,33 +54,33 @@ packets s = packets_from s (suc (length s)) true (replicate 64 0) 0
 
 -- no bytes left: 17 at the start, 18 later
 unfoldable pub ran_out : ℕ → ℕ → Refusal
-ran_out count len = pick (eqb count 0) (refusal 17 0) (refusal 18 len)
+ran_out count len = pick (eqb count 0) (refusal fault.NoMapFirst 0) (refusal fault.StreamEnd len)
 
 -- the end of the packets, in a stream of n bytes, after some progress; an EOS ends the walk by its own step, so that nothing comes to `closed`
-abbrev pub at_end : ℕ → Progress → End → CheckAnswer
-at_end n p closed = check.Refused (ran_out p.count n)
-at_end n p runs_out = check.Refused (ran_out p.count n)
-at_end n p (stops r) = check.Refused r
+abbrev pub at_end : ℕ → Progress → End → Result ℕ Refusal
+at_end n p closed = Err (ran_out p.count n)
+at_end n p runs_out = Err (ran_out p.count n)
+at_end n p (stops r) = Err r
 
-abbrev pub on_step : (Progress → CheckAnswer) → Step → CheckAnswer
-on_step next (step.Next p) = next p
-on_step next (step.Ended n) = check.Packets n
-on_step next (step.Refused r) = check.Refused r
+abbrev pub on_step : (Progress → Result ℕ Refusal) → Result Step Refusal → Result ℕ Refusal
+on_step next (Ok (step.Next p)) = next p
+on_step next (Ok (step.Ended n)) = Ok n
+on_step next (Err r) = Err r
 
 -- the type under which an ID is listed, without the mark
 abbrev pub type_for : List ℕ → ℕ → ℕ
 type_for types id = type_alone (get_or types id 0)
 
 -- a packet in the order of a stream of n bytes
-abbrev pub step_at : ℕ → Progress → Placed → Step
+abbrev pub step_at : ℕ → Progress → Placed → Result Step Refusal
 step_at n p x = step_of p x.piece x.at (type_for x.types x.piece.track) (ltb (x.at + x.piece.len) n)
 
 -- the first fault, in walk order, or the number of packets
-unfoldable pub judge_packets : ℕ → Progress → List Placed → End → CheckAnswer
+unfoldable pub judge_packets : ℕ → Progress → List Placed → End → Result ℕ Refusal
 judge_packets n p [] e = at_end n p e
 judge_packets n p (x ∷ xs) e = on_step (λ q. judge_packets n q xs e) (step_at n p x)
 
-unfoldable pub check_of : List ℕ → CheckAnswer
+unfoldable pub check_of : List ℕ → Result ℕ Refusal
 check_of s = judge_packets (length s) started (packets s).list (packets s).end
 
 -- a packet that carries two fields, or one, carries field F of track T if its type is known, its ID is T, and its number is F or, where it carries two, F − 1
@@ -104,18 +97,17 @@ abbrev pub carries : ℕ → ℕ → Placed → Bool
 carries track field x = carries_piece track field (get_or x.types x.piece.track 0) x.piece
 
 -- the offset of the first packet that carries
-unfoldable pub first_of : ℕ → ℕ → List Placed → Spot
-first_of track field [] = spot.Nothing
-first_of track field (x ∷ xs) = pick (carries track field x) (spot.At x.at) (first_of track field xs)
+unfoldable pub first_of : ℕ → ℕ → List Placed → Option ℕ
+first_of track field [] = None
+first_of track field (x ∷ xs) = pick (carries track field x) (Some x.at) (first_of track field xs)
 
 -- the check's refusal first; then the first carrier, or 16
-abbrev pub or_not_there : Spot → SeekAnswer
-or_not_there (spot.At o) = seek.At o
-or_not_there spot.Nothing = seek.Refused (refusal 16 0)
+abbrev pub or_not_there : Option ℕ → Result ℕ Refusal
+or_not_there o = ok_or o (refusal fault.NotThere 0)
 
-abbrev pub if_checked : CheckAnswer → SeekAnswer → SeekAnswer
-if_checked (check.Packets n) a = a
-if_checked (check.Refused r) a = seek.Refused r
+abbrev pub if_checked : Result ℕ Refusal → Result ℕ Refusal → Result ℕ Refusal
+if_checked (Ok n) a = a
+if_checked (Err r) a = Err r
 
-unfoldable pub seek_of : List ℕ → ℕ → ℕ → SeekAnswer
+unfoldable pub seek_of : List ℕ → ℕ → ℕ → Result ℕ Refusal
 seek_of s track field = if_checked (check_of s) (or_not_there (first_of track field (packets s).list))

@@ -8,40 +8,14 @@ ghost use Rattle.stream.specs.Inside.{or_first, first_here, run_of};
 
 use map_tracks::Types;
 use order::{Progress, Step};
-use piece::{Piece, PieceAnswer};
-use plate::Refusal;
-
-// An offset, if there is one.
-#[derive(Clone, Copy)]
-pub enum Spot {
-    At(usize),
-    Nothing,
-}
-
-// An accepted stream has so many packets.
-#[derive(Clone, Copy)]
-pub enum CheckAnswer {
-    Packets(usize),
-    Refused(Refusal),
-}
-
-#[derive(Clone, Copy)]
-pub enum SeekAnswer {
-    At(usize),
-    Refused(Refusal),
-}
+use piece::Piece;
+use plate::{Fault, Refusal};
 
 // What one pass over an accepted stream gives: its packets, and the first that carries a field of a track.
-#[derive(Clone, Copy)]
+#[derive(Clone, Copy, Debug, PartialEq, Eq)]
 pub struct Pass {
     pub count: usize,
-    pub first: Spot,
-}
-
-#[derive(Clone, Copy)]
-pub enum Run {
-    Passed(Pass),
-    Refused(Refusal),
+    pub first: Option<usize>,
 }
 
 // Whether a packet carries a field of a track, by the marked types of the latest map: its type is known, its ID is the track's, and its number is the field's or, where it carries two, the one below.
@@ -50,7 +24,6 @@ fn carries(x: Piece, types: &[u8], track: u64, field: u64) -> bool
     requires { x.track < length types.now }
     ensures { result ≡ carries_piece track field (get_or types.now x.track 0) x }
 {
-    let media_type = x.media_type;
     if x.packet_type != packet::MEDIA {
         return false;
     }
@@ -60,42 +33,40 @@ fn carries(x: Piece, types: &[u8], track: u64, field: u64) -> bool
     if x.track as u64 != track {
         return false;
     }
-    if media_type::is_known(media_type) {
-        return field::by_half(types[number::wide(x.track)], x.field as u64, field);
-    }
-    false
+    media_type::is_known(x.media_type)
+        && field::by_half(types[x.track as usize], x.field as u64, field)
 }
 
 // The first carrier so far, with one packet more.
-fn first_with(first: Spot, x: Piece, at: usize, types: &[u8], track: u64, field: u64) -> Spot
+fn first_with(
+    first: Option<usize>,
+    x: Piece,
+    at: usize,
+    types: &[u8],
+    track: u64,
+    field: u64,
+) -> Option<usize>
     requires { x.track < length types.now }
     ensures { result ≡ or_first first (first_here track field (get_or types.now x.track 0) x at) }
 {
-    if carries(x, types, track, field) {
-        match first {
-            Spot::At(o) => {
-                return Spot::At(o);
-            }
-            Spot::Nothing => {
-                return Spot::At(at);
-            }
-        }
+    if first.is_none() && carries(x, types, track, field) {
+        return Some(at);
     }
     first
 }
 
 // Bytes have run out: 17 at the start, 18 later.
-fn run_out(count: usize, len: usize) -> Run
-    ensures { result ≡ Run.Refused (ran_out count len) }
+fn ran_out(count: usize, len: usize) -> Refusal
+    ensures { result ≡ ran_out count len }
 {
     if count == 0 {
-        return Run::Refused(plate::refuse(plate::NO_MAP_FIRST, 0));
+        return plate::refuse(Fault::NoMapFirst, 0);
     }
-    Run::Refused(plate::refuse(plate::STREAM_END, len))
+    plate::refuse(Fault::StreamEnd, len)
 }
 
 // One pass over a stream.
-fn one_pass(s: &[u8], track: u64, field: u64) -> Run
+fn one_pass(s: &[u8], track: u64, field: u64) -> Result<Pass, Refusal>
     ensures { result ≡ run_of s.now track field }
 {
     let mut at: usize = 0;
@@ -103,61 +74,40 @@ fn one_pass(s: &[u8], track: u64, field: u64) -> Run
     let mut types = Types {
         media_types: [0u8; 64],
     };
-    let mut first = Spot::Nothing;
+    let mut first = None;
     while at < s.len() {
-        match piece::piece_at(s, at, p.count == 0) {
-            PieceAnswer::Refused(r) => {
-                return Run::Refused(r);
+        let x = piece::piece_at(s, at, p.count == 0)?;
+        let e = at + x.len;
+        if x.packet_type == packet::MAP {
+            types = map::types_of(&s[at..e]);
+        }
+        first = first_with(first, x, at, &types.media_types, track, field);
+        let listed = field::type_alone(types.media_types[x.track as usize]);
+        match order::take_step(p, x, at, listed, e < s.len())? {
+            Step::Ended(count) => {
+                return Ok(Pass { count, first });
             }
-            PieceAnswer::Whole(x) => {
-                let packet_type = x.packet_type;
-                let e = at + x.len;
-                if packet_type == packet::MAP {
-                    types = map::types_of(&s[at..e]);
-                }
-                let k = number::wide(x.track);
-                first = first_with(first, x, at, &types.media_types, track, field);
-                let listed = field::type_alone(types.media_types[k]);
-                match order::take_step(p, x, at, listed, e < s.len()) {
-                    Step::Refused(r) => {
-                        return Run::Refused(r);
-                    }
-                    Step::Ended(count) => {
-                        return Run::Passed(Pass { count, first });
-                    }
-                    Step::Next(next) => {
-                        p = next;
-                        at = e;
-                    }
-                }
+            Step::Next(next) => {
+                p = next;
             }
         }
+        at = e;
     }
-    run_out(p.count, s.len())
+    Err(ran_out(p.count, s.len()))
 }
 
 // The number of packets of a stream, or its first fault.
-pub fn check(s: &[u8]) -> CheckAnswer
+pub fn check(s: &[u8]) -> Result<usize, Refusal>
     ensures { result ≡ check_of s.now }
 {
-    match one_pass(s, 64, 0) {
-        Run::Passed(pass) => CheckAnswer::Packets(pass.count),
-        Run::Refused(r) => CheckAnswer::Refused(r),
-    }
+    let pass = one_pass(s, 64, 0)?;
+    Ok(pass.count)
 }
 
 // The offset of the first packet that carries a field of a track; the check's refusal first, 16 where none carries it.
-pub fn seek(s: &[u8], track: u64, field: u64) -> SeekAnswer
+pub fn seek(s: &[u8], track: u64, field: u64) -> Result<usize, Refusal>
     ensures { result ≡ seek_of s.now track field }
 {
-    match one_pass(s, track, field) {
-        Run::Refused(r) => SeekAnswer::Refused(r),
-        Run::Passed(pass) => {
-            let first = pass.first;
-            match first {
-                Spot::At(o) => SeekAnswer::At(o),
-                Spot::Nothing => SeekAnswer::Refused(plate::refuse(plate::NOT_THERE, 0)),
-            }
-        }
-    }
+    let pass = one_pass(s, track, field)?;
+    pass.first.ok_or(plate::refuse(Fault::NotThere, 0))
 }

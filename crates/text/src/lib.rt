@@ -7,19 +7,8 @@ ghost use Rattle.text.specs.Text.{text_ok};
 pub fn is_text(v: &[u8]) -> bool
     ensures { result ≡ text_ok v.now }
 {
-    if v.len() == 0 {
+    let Some((last, front)) = v.split_last() else {
         return false;
-    }
-    let mut i: usize = 0;
-    while i < v.len() - 1 {
-        let b = v[i];
-        if b == 0 {
-            return false;
-        }
-        if 0x80 <= b {
-            return false;
-        }
-        i += 1;
-    }
-    v[i] == 0
+    };
+    *last == 0 && front.iter().all(|b| matches!(*b, 0x01..=0x7F))
 }

@@ -3,11 +3,10 @@
 #![tactic(auto)]
 
 use console::say;
-use map::{MapAnswer, TrackAnswer};
-use map_answer::{Code, Material, Track, Value};
+use map_answer::{Material, Track};
 use map_aspect::Aspect;
 use map_items::Part;
-use packet::PacketAnswer;
+use plate::Fault;
 
 fn figure(n: usize) {
     console::figure(n as u64);
@@ -15,202 +14,56 @@ fn figure(n: usize) {
 
 // Whether n bytes from a place of p on are those from a place of q on; they have to lie in them.
 fn same_bytes(p: &[u8], i: usize, q: &[u8], j: usize, n: usize) -> bool {
-    if p.len() < i {
+    if p.len() < i || p.len() - i < n {
         return false;
     }
-    if p.len() - i < n {
+    if q.len() < j || q.len() - j < n {
         return false;
     }
-    if q.len() < j {
-        return false;
-    }
-    if q.len() - j < n {
-        return false;
-    }
-    let mut k: usize = 0;
-    while k < n {
-        if p[i + k] != q[j + k] {
-            return false;
-        }
-        k += 1;
-    }
-    true
+    p[i..i + n] == q[j..j + n]
 }
 
 // Present in both with the same stored length and the same bytes, or absent from both.
-fn same_part(p: &[u8], a: Part, q: &[u8], b: Part) -> bool {
-    match a {
-        Part::At(i, n) => match b {
-            Part::At(j, m) => {
-                if n != m {
-                    return false;
-                }
-                same_bytes(p, i, q, j, n)
-            }
-            Part::Absent => false,
-        },
-        Part::Absent => match b {
-            Part::At(_, _) => false,
-            Part::Absent => true,
-        },
+fn same_part(p: &[u8], a: Option<Part>, q: &[u8], b: Option<Part>) -> bool {
+    match (a, b) {
+        (Some(x), Some(y)) => x.len == y.len && same_bytes(p, x.at, q, y.at, x.len),
+        (None, None) => true,
+        _ => false,
     }
-}
-
-fn same_value(a: Value, b: Value) -> bool {
-    match a {
-        Value::Is(n) => match b {
-            Value::Is(m) => n == m,
-            Value::Absent => false,
-        },
-        Value::Absent => match b {
-            Value::Is(_) => false,
-            Value::Absent => true,
-        },
-    }
-}
-
-// A number for each code; of one that is given, the code.
-fn code_number(c: Code) -> usize {
-    match c {
-        Code::Is(n) => number::wide(n),
-        Code::NotApplicable => 1001,
-        Code::NotAvailable => 1002,
-        Code::Absent => 1003,
-    }
-}
-
-fn same_code(a: Code, b: Code) -> bool {
-    code_number(a) == code_number(b)
 }
 
 fn same_material(p: &[u8], a: Material, q: &[u8], b: Material) -> bool {
-    let x = a.first;
-    let y = b.first;
-    if same_value(x, y) {} else {
-        return false;
-    }
-    let x = a.last;
-    let y = b.last;
-    if same_value(x, y) {} else {
-        return false;
-    }
-    let x = a.mark_in;
-    let y = b.mark_in;
-    if same_value(x, y) {} else {
-        return false;
-    }
-    let x = a.mark_out;
-    let y = b.mark_out;
-    if same_value(x, y) {} else {
-        return false;
-    }
-    let x = a.size;
-    let y = b.size;
-    if same_value(x, y) {} else {
-        return false;
-    }
-    let x = a.name;
-    let y = b.name;
-    same_part(p, x, q, y)
+    let numbers = Material { name: b.name, ..a };
+    numbers == b && same_part(p, a.name, q, b.name)
 }
 
-fn same_codes(a: Track, b: Track) -> bool {
-    if a.id != b.id {
-        return false;
-    }
-    if a.media_type != b.media_type {
-        return false;
-    }
-    let x = a.rate;
-    let y = b.rate;
-    if same_code(x, y) {} else {
-        return false;
-    }
-    let x = a.lines;
-    let y = b.lines;
-    if same_code(x, y) {} else {
-        return false;
-    }
-    let x = a.fields;
-    let y = b.fields;
-    if same_code(x, y) {} else {
-        return false;
-    }
-    let x = a.version;
-    let y = b.version;
-    same_value(x, y)
-}
-
-fn same_aspect(a: Aspect, b: Aspect) -> bool {
-    match a {
-        Aspect::FourByThree => match b {
-            Aspect::FourByThree => true,
-            Aspect::SixteenByNine => false,
-            Aspect::Unknown => false,
-        },
-        Aspect::SixteenByNine => match b {
-            Aspect::FourByThree => false,
-            Aspect::SixteenByNine => true,
-            Aspect::Unknown => false,
-        },
-        Aspect::Unknown => match b {
-            Aspect::FourByThree => false,
-            Aspect::SixteenByNine => false,
-            Aspect::Unknown => true,
-        },
-    }
-}
-
+// All but the places is equal, and the parts at the places are the same.
 fn same_track(p: &[u8], a: Track, q: &[u8], b: Track) -> bool {
-    if same_codes(a, b) {} else {
-        return false;
-    }
-    let x = a.name;
-    let y = b.name;
-    if same_part(p, x, q, y) {} else {
-        return false;
-    }
-    let x = a.aux;
-    let y = b.aux;
-    if same_part(p, x, q, y) {} else {
-        return false;
-    }
-    let x = a.mpeg;
-    let y = b.mpeg;
-    if same_part(p, x, q, y) {} else {
-        return false;
-    }
-    let x = a.aspect;
-    let y = b.aspect;
-    same_aspect(x, y)
+    let bare = Track {
+        name: b.name,
+        aux: b.aux,
+        mpeg: b.mpeg,
+        ..a
+    };
+    bare == b
+        && same_part(p, a.name, q, b.name)
+        && same_part(p, a.aux, q, b.aux)
+        && same_part(p, a.mpeg, q, b.mpeg)
 }
 
 // The k-th track: a record in both that is the same, or a refusal with 16 in both.
 fn same_kth(p: &[u8], q: &[u8], k: usize) -> bool {
-    match map::track(p, 0, k) {
-        TrackAnswer::Record(a) => match map::track(q, 0, k) {
-            TrackAnswer::Record(b) => same_track(p, a, q, b),
-            TrackAnswer::Refused(_) => false,
-        },
-        TrackAnswer::Refused(r) => match map::track(q, 0, k) {
-            TrackAnswer::Record(_) => false,
-            TrackAnswer::Refused(t) => {
-                if r.number != 16 {
-                    return false;
-                }
-                t.number == 16
-            }
-        },
+    match (map::track(p, 0, k), map::track(q, 0, k)) {
+        (Ok(a), Ok(b)) => same_track(p, a, q, b),
+        (Err(r), Err(t)) => r.fault == Fault::NotThere && t.fault == Fault::NotThere,
+        _ => false,
     }
 }
 
 // Each of the n listed tracks, and that there are no more.
 fn same_tracks(p: &[u8], q: &[u8], n: usize) -> bool {
-    let mut k: usize = 0;
-    while k < n {
-        if same_kth(p, q, k) {
-            k += 1;
-        } else {
+    for k in 0..n {
+        if !same_kth(p, q, k) {
             return false;
         }
     }
@@ -218,32 +71,23 @@ fn same_tracks(p: &[u8], q: &[u8], n: usize) -> bool {
 }
 
 fn same_answer(p: &[u8], q: &[u8]) -> bool {
-    match map::read(p, 0) {
-        MapAnswer::Says(a) => match map::read(q, 0) {
-            MapAnswer::Says(b) => {
-                if a.count != b.count {
-                    return false;
-                }
-                let x = a.material;
-                let y = b.material;
-                if same_material(p, x, q, y) {
-                    return same_tracks(p, q, a.count);
-                }
-                false
-            }
-            MapAnswer::Refused(_) => false,
-        },
-        MapAnswer::Refused(_) => false,
+    match (map::read(p, 0), map::read(q, 0)) {
+        (Ok(a), Ok(b)) => {
+            a.count == b.count
+                && same_material(p, a.material, q, b.material)
+                && same_tracks(p, q, a.count)
+        }
+        _ => false,
     }
 }
 
 fn show_count(p: &[u8]) {
     match map::read(p, 0) {
-        MapAnswer::Says(a) => {
+        Ok(a) => {
             figure(a.count);
             say(b" tracks");
         }
-        MapAnswer::Refused(r) => {
+        Err(r) => {
             say(b" ");
             console::refused(r);
         }
@@ -252,32 +96,19 @@ fn show_count(p: &[u8]) {
 
 fn show_aspect(a: Aspect) {
     match a {
-        Aspect::FourByThree => {
-            say(b" 4x3");
-        }
-        Aspect::SixteenByNine => {
-            say(b" 16x9");
-        }
-        Aspect::Unknown => {
-            say(b" -");
-        }
+        Aspect::FourByThree => say(b" 4x3"),
+        Aspect::SixteenByNine => say(b" 16x9"),
+        Aspect::Unknown => say(b" -"),
     }
 }
 
 // The aspects of a map's tracks, 64 at most; a track behind the last says nothing.
 fn show_aspects(p: &[u8]) {
-    let mut k: usize = 0;
-    while k < 64 {
-        match map::track(p, 0, k) {
-            TrackAnswer::Record(t) => {
-                let a = t.aspect;
-                show_aspect(a);
-            }
-            TrackAnswer::Refused(_) => {
-                return;
-            }
-        }
-        k += 1;
+    for k in 0..64 {
+        let Ok(t) = map::track(p, 0, k) else {
+            return;
+        };
+        show_aspect(t.aspect);
     }
 }
 
@@ -301,27 +132,24 @@ fn show_pair(label: &[u8], n: usize, p: &[u8], q: &[u8]) {
     say(b"\n");
 }
 
-// The length of the packet at a place; 0 where there is none.
-fn length_at(s: &[u8], at: usize) -> usize {
-    match packet::of_type(s, at, packet::MAP) {
-        PacketAnswer::Whole(w) => w.len,
-        PacketAnswer::Refused(_) => 0,
-    }
+// The length of the map packet at a place.
+fn length_at(s: &[u8], at: usize) -> Option<usize> {
+    let w = packet::of_type(s, at, packet::MAP).ok()?;
+    Some(w.len)
 }
 
 fn show_pairs(label: &[u8], s: &[u8]) {
     let mut at: usize = 0;
     let mut n: usize = 0;
     while at < s.len() {
-        let a = length_at(s, at);
-        if a == 0 {
+        let Some(a) = length_at(s, at) else {
             return;
-        }
-        if s.len() - at < a {
+        };
+        if a == 0 || s.len() - at < a {
             return;
         }
         let e = at + a;
-        let b = length_at(s, e);
+        let b = length_at(s, e).unwrap_or(0);
         if s.len() - e < b {
             return;
         }

@@ -1,6 +1,7 @@
 -- A UMF packet judged, what its acceptance tells, and number n of a section.
 use Prim.Native.Nat.{ℕ, zero, suc, ◌+◌, ◌-◌, ◌<◌, ◌≤◌}
 use mathlib.Core.Path.{◌≡◌, refl, sym, ◌∙◌, ap}
+use mathlib.Core.Logic.{◌⊎◌, inl, inr}
 use mathlib.Core.Bool.{Bool, true, false}
 use mathlib.Core.List.{List}
 use native.Mathlib.Omega.{arith}
@@ -9,23 +10,23 @@ use lib.ListN.{length, get_or, take, drop, length-drop}
 use lib.Seq.{length-take-le, drop-drop}
 use lib.Dec.{ltb}
 use borrow.Author.Tests.{lt-ltb, le-ltb, eq-eqb, ne_eqb, ltb-false}
+use Rattle.std.specs.Prelude.{Some, None, Result, Ok, Err, ⊤}
+use Rattle.std.specs.Option.{ok_or}
 use Rattle.plate.specs.Choice.{pick}
 use Rattle.plate.specs.Plate.{refusal}
 use Rattle.number.specs.Number.{be}
 use Rattle.map_items.specs.Judge.{and_then}
 use Rattle.map_items.specs.Find.{Found, missing, found, part_of}
-use Rattle.map_items.specs.declared.Part.TheVariants.{At, Absent}
-use Rattle.map_items.specs.declared.Verdict.{Verdict}
-use Rattle.map_items.specs.declared.Verdict.TheVariants.{Accepted, Refused}
 use Rattle.umf.specs.Split.{step_of, walk, split_of, size_of}
 use Rattle.umf.specs.Inside.{walked_of}
 use Rattle.umf.specs.Umf.{length_of, payload_of, is_opened, section_at, section_size, parts_of, bad30, section_verdict, payload_verdict, umf_verdict, nth_from, answered, place_of}
-use Rattle.umf.specs.declared.PlaceAnswer.TheVariants as place
 use Rattle.umf.specs.declared.Described.{Described}
 use Rattle.umf.specs.declared.Described.TheVariants.{Tracks, Segments, Users}
 use Rattle.umf.specs.declared.Step.{Step}
 use Rattle.umf.specs.declared.Step.TheVariants.{More, Used, Over}
 use Rattle.umf.specs.declared.Walked.{Walked}
+use Rattle.plate.specs.declared.Refusal.{Refusal}
+use Rattle.plate.specs.declared.Fault.TheVariants as fault
 use Rattle.umf.proofs.Turns.{more}
 use Rattle.umf.proofs.Sections.{within_section}
 
@@ -35,7 +36,7 @@ module _ (p : List ℕ) where
   on_short h = rw (lt-ltb _ _ h)
 
   module _ (h : 21 + be p 17 4 ≤ length p) where
-    pub on_closed : (get_or p 16 0 ≡ 3 → ⊥) → Accepted ≡ umf_verdict p
+    pub on_closed : (get_or p 16 0 ≡ 3 → ⊥) → (Ok tt) ≡ umf_verdict p
     unfolding umf_verdict
     on_closed q = rw (le-ltb _ _ h, ne_eqb _ _ q)
 
@@ -44,24 +45,24 @@ module _ (p : List ℕ) where
     on_opened q = rw (le-ltb _ _ h, eq-eqb _ _ q)
 
 -- what was accepted at the end of two choices passed both
-passes : (b : Bool) (n : ℕ) (v : Verdict) → pick b (bad30 n) v ≡ Accepted → (b ≡ false) × (v ≡ Accepted)
+passes : (b : Bool) (n : ℕ) (v : Result ⊤ Refusal) → pick b (bad30 n) v ≡ (Ok tt) → (b ≡ false) × (v ≡ (Ok tt))
 passes true n v e = absurd (let z : ◌≡◌ {A = ℕ} 0 1 = cc in omega arith)
 passes false n v e = (refl, e)
 
-ends : (b : Bool) (n : ℕ) → pick b Accepted (bad30 n) ≡ Accepted → b ≡ true
+ends : (b : Bool) (n : ℕ) → pick b (Ok tt) (bad30 n) ≡ (Ok tt) → b ≡ true
 ends true n e = refl
 ends false n e = absurd (let z : ◌≡◌ {A = ℕ} 0 1 = cc in omega arith)
 
-both : (v w : Verdict) → and_then v w ≡ Accepted → (v ≡ Accepted) × (w ≡ Accepted)
-both Accepted w e = (refl, e)
-both (Refused r) w e = absurd (let z : ◌≡◌ {A = ℕ} 0 1 = cc in omega arith)
+both : (v w : Result ⊤ Refusal) → and_then v w ≡ (Ok tt) → (v ≡ (Ok tt)) × (w ≡ (Ok tt))
+both (Ok _) w e = (refl, e)
+both (Err r) w e = absurd (let z : ◌≡◌ {A = ℕ} 0 1 = cc in omega arith)
 
 -- a section that was accepted lies in the payload and has all that it is to have
 pub record GoodSection (k : Described) (y : List ℕ) : Type 0 where
   pub inside : section_at k y + section_size k y ≤ length y
   pub whole : (parts_of k y).end ≡ true
 
-good_section : (k : Described) (y : List ℕ) → section_verdict k y ≡ Accepted → GoodSection k y
+good_section : (k : Described) (y : List ℕ) → section_verdict k y ≡ (Ok tt) → GoodSection k y
 unfolding section_verdict
 good_section k y e =
     let a = passes (ltb (length y) (section_at k y + section_size k y)) _ _ e in
@@ -71,7 +72,7 @@ pub record GoodPayload (y : List ℕ) : Type 0 where
   pub described : 104 ≤ length y
   pub each : (k : Described) → GoodSection k y
 
-pub good_payload : (y : List ℕ) → payload_verdict y ≡ Accepted → GoodPayload y
+pub good_payload : (y : List ℕ) → payload_verdict y ≡ (Ok tt) → GoodPayload y
 unfolding payload_verdict
 good_payload y e =
     let a = passes (ltb (length y) 48) _ _ e in
@@ -80,7 +81,7 @@ good_payload y e =
     let m = both (section_verdict Segments y) (section_verdict Users y) t.1 in
     record { described = ltb-false (length y) 104 b.0; each = every t.0 m.0 m.1 }
   where
-    every : section_verdict Tracks y ≡ Accepted → section_verdict Segments y ≡ Accepted → section_verdict Users y ≡ Accepted → (k : Described) → GoodSection k y
+    every : section_verdict Tracks y ≡ (Ok tt) → section_verdict Segments y ≡ (Ok tt) → section_verdict Users y ≡ (Ok tt) → (k : Described) → GoodSection k y
     every a b c Tracks = good_section Tracks y a
     every a b c Segments = good_section Segments y b
     every a b c Users = good_section Users y c
@@ -95,7 +96,7 @@ pub record GoodUmf (p : List ℕ) : Type 0 where
   pub holds : 21 + length_of p ≤ length p
   pub good : is_opened p ≡ true → GoodPayload (payload_of p)
 
-pub good_umf : (p : List ℕ) → umf_verdict p ≡ Accepted → GoodUmf p
+pub good_umf : (p : List ℕ) → umf_verdict p ≡ (Ok tt) → GoodUmf p
 unfolding umf_verdict
 good_umf p e =
     let a = passes (ltb (length p) (21 + length_of p)) _ _ e in
@@ -159,14 +160,12 @@ module _ (k : Described) (n count b : ℕ) (d : List ℕ) (h : n < count) (w : W
   pub walked_in : w.bytes ≤ length d
   walked_in = omega (arith, bytes_are_lem, within_section k n d)
 
-  pub at_more : (m : ℕ) → step_of k (drop w.bytes d) ≡ More m → At (b + w.bytes) m ≡ part_of (nth_from b n (split_of k count d).list)
+  pub at_more : (m : ℕ) → step_of k (drop w.bytes d) ≡ More m → Some (record { at = b + w.bytes; len = m }) ≡ part_of (nth_from b n (split_of k count d).list)
   at_more m f = sym (ap part_of lands ∙ rw (f, length-take-le m (drop w.bytes d) (more k (drop w.bytes d) m f).most))
 
-  pub at_used : step_of k (drop w.bytes d) ≡ Used → Absent ≡ part_of (nth_from b n (split_of k count d).list)
-  at_used f = sym (ap part_of lands ∙ rw f)
-
-  pub at_over : step_of k (drop w.bytes d) ≡ Over → Absent ≡ part_of (nth_from b n (split_of k count d).list)
-  at_over f = sym (ap part_of lands ∙ rw f)
+  pub at_end : {x : Step} → x ≡ step_of k (drop w.bytes d) → (x ≡ Used) ⊎ (x ≡ Over) → None ≡ part_of (nth_from b n (split_of k count d).list)
+  at_end f (inl e) = sym (ap part_of lands ∙ rw (sym f ∙ e))
+  at_end f (inr e) = sym (ap part_of lands ∙ rw (sym f ∙ e))
 
 -- the payload of an accepted packet that is opened, as the code cuts it out
 module _ (p : List ℕ) (n : ℕ) (e : n ≡ be p 17 4) where
@@ -174,16 +173,11 @@ module _ (p : List ℕ) (n : ℕ) (e : n ≡ be p 17 4) where
   unfolding payload_of
   cut_out = rw (add-sub_cancel_left, e)
 
-  pub cut_good : umf_verdict p ≡ Accepted → get_or p 16 0 ≡ 3 → GoodPayload (take (21 + n - 21) (drop 21 p))
+  pub cut_good : umf_verdict p ≡ (Ok tt) → get_or p 16 0 ≡ 3 → GoodPayload (take (21 + n - 21) (drop 21 p))
   cut_good a o = rw cut_out ((good_umf p a).good (eq-eqb _ _ o))
 
 -- an answer by place and length, of what is there or is missing
-pub placed_at : (x : Found) (q n : ℕ) → part_of x ≡ At q n → place.At q n ≡ place_of (answered x)
+pub placed : (x : Found) → ok_or (part_of x) (refusal fault.NotThere 0) ≡ place_of (answered x)
 unfolding place_of
-placed_at missing q n e = absurd (let z : ◌≡◌ {A = ℕ} 0 1 = cc in omega arith)
-placed_at (found p d) q n e = let a : p ≡ q = cc in let b : length d ≡ n = cc in rw (a, b)
-
-pub placed_none : (x : Found) → part_of x ≡ Absent → place.Refused (refusal 16 0) ≡ place_of (answered x)
-unfolding place_of
-placed_none missing e = refl
-placed_none (found p d) e = absurd (let z : ◌≡◌ {A = ℕ} 0 1 = cc in omega arith)
+placed missing = refl
+placed (found p d) = refl

@@ -7,8 +7,8 @@ use native.Mathlib.Omega.{arith}
 use lib.ListN.{length, take, drop, length-drop, length-append}
 use lib.Seq.{length-take-le, drop-length}
 use borrow.Author.Tests.{le-ltb, eq-eqb, ne_eqb}
+use Rattle.std.specs.Prelude.{Ok}
 use Rattle.map_items.specs.Find.{missing, found}
-use Rattle.map_items.specs.declared.Verdict.TheVariants.{Accepted}
 use Rattle.umf.specs.Split.{least_of, is_counted, Parts, split_of, size_of}
 use Rattle.umf.specs.Umf.{flag_of, length_of, payload_of, section_at, section_size, section_of, count_of, parts_of, section_verdict, payload_verdict, umf_verdict, nth_in}
 use Rattle.umf.proofs.Statements.{join, Laid, Opened, UmfLaws}
@@ -46,7 +46,7 @@ holds k y g =
     }
 
 -- who holds it is read so, and accepted
-pub laid : (k : Described) (y : List ℕ) (ds : List (List ℕ)) → Laid k y ds → (parts_of k y ≡ record { list = ds; end = true }) × (section_verdict k y ≡ Accepted)
+pub laid : (k : Described) (y : List ℕ) (ds : List (List ℕ)) → Laid k y ds → (parts_of k y ≡ record { list = ds; end = true }) × (section_verdict k y ≡ (Ok tt))
 unfolding parts_of section_verdict
 laid k y ds h = (parts, rw (le-ltb _ _ h.inside, ap (λ (w : Parts). w.end) parts))
   where
@@ -56,7 +56,7 @@ laid k y ds h = (parts, rw (le-ltb _ _ h.inside, ap (λ (w : Parts). w.end) part
     parts : split_of k (count_of k y) (section_of k y) ≡ record { list = ds; end = true }
     parts = rw h.bytes (put k ds h.behind (count_of k y) h.each h.counted (λ u. (few u, h.used u)))
 
-accepts : (p : List ℕ) → flag_of p ≡ 3 → 21 + length_of p ≤ length p → 104 ≤ length_of p → ((k : Described) → section_verdict k (payload_of p) ≡ Accepted) → umf_verdict p ≡ Accepted
+accepts : (p : List ℕ) → flag_of p ≡ 3 → 21 + length_of p ≤ length p → 104 ≤ length_of p → ((k : Described) → section_verdict k (payload_of p) ≡ (Ok tt)) → umf_verdict p ≡ (Ok tt)
 unfolding payload_verdict
 accepts p f h l s =
     let z = payload_length p h in
@@ -66,7 +66,7 @@ closed_none : (p : List ℕ) → (flag_of p ≡ 3 → ⊥) → (k : Described) (
 closed_none p f k n = rw (ne_eqb _ _ f)
 
 -- what is found by its number stands in an opened payload
-stand : (k : Described) (n : ℕ) (p : List ℕ) (q : ℕ) (d : List ℕ) → umf_verdict p ≡ Accepted → nth_in k n p ≡ found q d
+stand : (k : Described) (n : ℕ) (p : List ℕ) (q : ℕ) (d : List ℕ) → umf_verdict p ≡ (Ok tt) → nth_in k n p ≡ found q d
     → (21 ≤ q) × (q + length d ≤ 21 + length_of p) × (d ≡ take (length d) (drop q p)) × (least_of k ≤ length d)
 stand k n p q d a e =
     let i = nth_stands k n p q d a e in
@@ -87,7 +87,7 @@ umf_laws =
           (sym (on_closed p h f), sym (on_closed q (omega (arith, l)) z), λ k n. (closed_none p f k n, closed_none q z k n));
     }
   where
-    opened : (p : List ℕ) → umf_verdict p ≡ Accepted → flag_of p ≡ 3 → GoodUmf p → Opened p
+    opened : (p : List ℕ) → umf_verdict p ≡ (Ok tt) → flag_of p ≡ 3 → GoodUmf p → Opened p
     opened p a f g =
         let y = g.good (eq-eqb _ _ f) in
         let z = payload_length p g.holds in

@@ -8,7 +8,7 @@ use native.Mathlib.Nat.{add-sub_cancel_left}
 use lib.ListN.{length, take, drop, length-drop}
 use lib.Seq.{length-take-le}
 use borrow.Author.Tests.{lt-ltb, le-ltb}
-use Rattle.map_items.specs.declared.Verdict.TheVariants.{Accepted}
+use Rattle.std.specs.Prelude.{Ok}
 use Rattle.umf.specs.Split.{step_of, walk, split_of, size_of}
 use Rattle.umf.specs.Inside.{walked_of}
 use Rattle.umf.specs.Umf.{section_at, section_size, count_of, parts_of, bad30, section_verdict}
@@ -42,7 +42,7 @@ module _ (k : Described) (y : List ℕ) (from size : ℕ) (p : from ≡ section_
     unfolding parts_of
     same = rw (← p, ← q) (rw add-sub_cancel_left at e)
 
-    pub on_whole : w.whole ≡ true → Accepted ≡ section_verdict k y
+    pub on_whole : w.whole ≡ true → (Ok tt) ≡ section_verdict k y
     unfolding section_verdict
     on_whole t = rw (← p, ← q, le-ltb _ _ h, sym (ap (λ (v : Walked). v.whole) same) ∙ t)
 

@@ -8,23 +8,21 @@ use lib.ListN.{length, take, drop, length-drop}
 use lib.Seq.{length-take-le, take-take, drop-drop}
 use lib.Dec.{leb}
 use borrow.Author.Tests.{leb-true, leb-false}
+use Rattle.std.specs.Prelude.{Result, Ok, Err, ⊤}
 use Rattle.plate.specs.Choice.{pick}
 use Rattle.plate.specs.Plate.{refusal}
 use Rattle.plate.specs.declared.Refusal.{Refusal}
 use Rattle.packet.specs.Packet.{packet_at, type_umf}
 use Rattle.packet.specs.declared.Packet.{Packet}
-use Rattle.packet.specs.declared.PacketAnswer.{PacketAnswer}
-use Rattle.packet.specs.declared.PacketAnswer.TheVariants as packet
 use Rattle.packet.proofs.Laws.{whole, typed}
 use Rattle.map_items.specs.Find.{Found, missing, found}
-use Rattle.map_items.specs.declared.Verdict.{Verdict}
-use Rattle.map_items.specs.declared.Verdict.TheVariants as verdict
+use Rattle.map_items.specs.declared.Part.{Part}
 use Rattle.umf.specs.Split.{least_of, step_of, split_of, size_of}
 use Rattle.umf.specs.Umf.{length_of, payload_of, is_opened, section_at, section_size, section_of, count_of, parts_of, umf_verdict, nth_from, nth_of, nth_in, Asked, refused, answered, if_accepted, if_whole, asked_at, place_of}
 use Rattle.umf.specs.declared.Described.{Described}
 use Rattle.umf.specs.declared.Step.{Step}
 use Rattle.umf.specs.declared.Step.TheVariants.{More, Used, Over}
-use Rattle.umf.specs.declared.PlaceAnswer.TheVariants as place
+use Rattle.plate.specs.declared.Fault.TheVariants as fault
 use Rattle.umf.proofs.Turns.{more}
 use Rattle.umf.proofs.Sections.{within_section}
 use Rattle.umf.proofs.Laws.{landed, nth_lands, nth_past, good_umf, payload_length}
@@ -82,7 +80,7 @@ moved at v q d i =
     record { low = omega arith; high = omega (arith, i.high); bytes = i.bytes ∙ rw j }
 
 -- number n of a packet that is accepted
-pub nth_stands : (k : Described) (n : ℕ) (p : List ℕ) (q : ℕ) (d : List ℕ) → umf_verdict p ≡ verdict.Accepted → nth_in k n p ≡ found q d
+pub nth_stands : (k : Described) (n : ℕ) (p : List ℕ) (q : ℕ) (d : List ℕ) → umf_verdict p ≡ (Ok tt) → nth_in k n p ≡ found q d
     → Within 0 p q d × ((21 ≤ q) × (q + length d ≤ 21 + length_of p) × (least_of k ≤ length d))
 unfolding nth_of parts_of payload_of
 nth_stands k n p q d a = go (is_opened p) refl
@@ -103,39 +101,40 @@ pub record Stands (s : List ℕ) (at : ℕ) (k : Described) (n q m : ℕ) : Type
   pub least : least_of k ≤ m
   pub size : length (take m (drop (at + q) s)) ≡ m
 
-pub stands : (s : List ℕ) (at : ℕ) (k : Described) (n q m : ℕ) → place_of (asked_at s at k n) ≡ place.At q m → Stands s at k n q m
+pub stands : (s : List ℕ) (at : ℕ) (k : Described) (n q m : ℕ) → place_of (asked_at s at k n) ≡ Ok (record { at = q; len = m }) → Stands s at k n q m
 unfolding asked_at place_of
 stands s at k n q m = go (packet_at s at type_umf) refl
   where
-    given : (w : Packet) → packet_at s at type_umf ≡ packet.Whole w → umf_verdict (take w.len (drop at s)) ≡ verdict.Accepted
-        → (x : Found) → nth_in k n (take w.len (drop at s)) ≡ x → place_of (answered x) ≡ place.At q m → Stands s at k n q m
+    given : (w : Packet) → packet_at s at type_umf ≡ Ok w → umf_verdict (take w.len (drop at s)) ≡ (Ok tt)
+        → (x : Found) → nth_in k n (take w.len (drop at s)) ≡ x → place_of (answered x) ≡ Ok (record { at = q; len = m }) → Stands s at k n q m
     given w e a missing f g = absurd (let z : ◌≡◌ {A = ℕ} 0 1 = cc in omega arith)
     given w e a (found r d) f g =
-        let b : r ≡ q = cc in
-        let l : length d ≡ m = cc in
+        let y : ◌≡◌ {A = Part} (record { at = r; len = length d }) (record { at = q; len = m }) = cc in
+        let b = ap (λ (v : Part). v.at) y in
+        let l = ap (λ (v : Part). v.len) y in
         let t = whole s at w (typed s at type_umf w e).0 in
         let i = nth_stands k n (take w.len (drop at s)) r d a f in
         let j = within_part 0 at w.len s (at + r) d (omega (arith, t.within, t.least)) (moved at (take w.len (drop at s)) r d i.0) in
         let o : d ≡ take m (drop (at + q) s) = let z : at + r - 0 ≡ at + r = omega arith in j.bytes ∙ rw (z, l, b) in
         record {
-          it = ap (λ (a : PacketAnswer). if_whole s at k n a) e ∙ ap (λ (v : Verdict). if_accepted k n (take w.len (drop at s)) v) a ∙ ap answered f ∙ ap (λ (u : ℕ). answered (found u d)) b ∙ ap (λ (u : List ℕ). answered (found q u)) o;
+          it = ap (λ (a : Result Packet Refusal). if_whole s at k n a) e ∙ ap (λ (v : Result ⊤ Refusal). if_accepted k n (take w.len (drop at s)) v) a ∙ ap answered f ∙ ap (λ (u : ℕ). answered (found u d)) b ∙ ap (λ (u : List ℕ). answered (found q u)) o;
           inside = omega (arith, j.high, b, l);
           least = omega (arith, i.1.2, l);
           size = sym (ap length o) ∙ l;
         }
 
-    judged : (w : Packet) → packet_at s at type_umf ≡ packet.Whole w → (v : Verdict) → umf_verdict (take w.len (drop at s)) ≡ v → place_of (if_accepted k n (take w.len (drop at s)) v) ≡ place.At q m → Stands s at k n q m
-    judged w e (verdict.Refused r) a g = absurd (let z : ◌≡◌ {A = ℕ} 0 1 = cc in omega arith)
-    judged w e verdict.Accepted a g = given w e a (nth_in k n (take w.len (drop at s))) refl g
+    judged : (w : Packet) → packet_at s at type_umf ≡ Ok w → (v : Result ⊤ Refusal) → umf_verdict (take w.len (drop at s)) ≡ v → place_of (if_accepted k n (take w.len (drop at s)) v) ≡ Ok (record { at = q; len = m }) → Stands s at k n q m
+    judged w e (Err r) a g = absurd (let z : ◌≡◌ {A = ℕ} 0 1 = cc in omega arith)
+    judged w e (Ok _) a g = given w e a (nth_in k n (take w.len (drop at s))) refl g
 
-    go : (a : PacketAnswer) → packet_at s at type_umf ≡ a → place_of (if_whole s at k n a) ≡ place.At q m → Stands s at k n q m
-    go (packet.Refused r) e g = absurd (let z : ◌≡◌ {A = ℕ} 0 1 = cc in omega arith)
-    go (packet.Whole w) e g = judged w e (umf_verdict (take w.len (drop at s))) refl g
+    go : (a : Result Packet Refusal) → packet_at s at type_umf ≡ a → place_of (if_whole s at k n a) ≡ Ok (record { at = q; len = m }) → Stands s at k n q m
+    go (Err r) e g = absurd (let z : ◌≡◌ {A = ℕ} 0 1 = cc in omega arith)
+    go (Ok w) e g = judged w e (umf_verdict (take w.len (drop at s))) refl g
 
 -- what gives the refusals on, and 16 for what is missing, gives the refusal that the place is given with
-pub refused_by : {A : Type 0} (f : Asked → A) (g : Refusal → A) → ((r : Refusal) → f (refused r) ≡ g r) → f (answered missing) ≡ g (refusal 16 0)
-    → (x : Asked) (r : Refusal) → place_of x ≡ place.Refused r → f x ≡ g r
+pub refused_by : {A : Type 0} (f : Asked → A) (g : Refusal → A) → ((r : Refusal) → f (refused r) ≡ g r) → f (answered missing) ≡ g (refusal fault.NotThere 0)
+    → (x : Asked) (r : Refusal) → place_of x ≡ Err r → f x ≡ g r
 unfolding place_of
 refused_by f g a b (refused q) r e = let z : q ≡ r = cc in a q ∙ ap g z
-refused_by f g a b (answered missing) r e = let z : refusal 16 0 ≡ r = cc in b ∙ ap g z
+refused_by f g a b (answered missing) r e = let z : refusal fault.NotThere 0 ≡ r = cc in b ∙ ap g z
 refused_by f g a b (answered (found q d)) r e = absurd (let z : ◌≡◌ {A = ℕ} 0 1 = cc in omega arith)

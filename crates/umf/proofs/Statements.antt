@@ -1,7 +1,6 @@
 -- What taking a section apart tells, and the other way (RDD 14, 7.3.2.4 to 7.3.2.6; 02, §1): so that `walk`, which goes step by step, need not be believed.
-use Rattle.std.specs.Prelude.{ℕ, ◌+◌, ◌<◌, ◌≤◌, ◌≡◌, true, false, List, [], ◌∷◌, ◌++◌, length, take, drop}
+use Rattle.std.specs.Prelude.{ℕ, ◌+◌, ◌<◌, ◌≤◌, ◌≡◌, true, false, List, [], ◌∷◌, ◌++◌, length, take, drop, Ok}
 use Rattle.map_items.specs.Find.{missing, found}
-use Rattle.map_items.specs.declared.Verdict.TheVariants.{Accepted}
 use Rattle.umf.specs.Split.{least_of, stated_of, is_counted, Parts, split_of, size_of}
 use Rattle.umf.specs.Umf.{flag_of, length_of, payload_of, section_at, section_size, section_of, count_of, parts_of, section_verdict, umf_verdict, nth_in}
 use Rattle.umf.specs.declared.Described.{Described}
@@ -54,12 +53,12 @@ pub record UmfLaws : Type 1 where
   pub split : (k : Described) (n : ℕ) (s : List ℕ) → SplitSays k n s (split_of k n s)
   pub put : (k : Described) (ds : List (List ℕ)) → AllWhole k ds → PutTogether k ds
   -- an accepted packet that is opened has all that in its place; and who has it is accepted, and read so
-  pub has : (p : List ℕ) → umf_verdict p ≡ Accepted → flag_of p ≡ 3 → Opened p
-  pub laid : (k : Described) (y : List ℕ) (ds : List (List ℕ)) → Laid k y ds → (parts_of k y ≡ record { list = ds; end = true }) × (section_verdict k y ≡ Accepted)
-  pub accepts : (p : List ℕ) → flag_of p ≡ 3 → 21 + length_of p ≤ length p → 104 ≤ length_of p → ((k : Described) → section_verdict k (payload_of p) ≡ Accepted) → umf_verdict p ≡ Accepted
+  pub has : (p : List ℕ) → umf_verdict p ≡ (Ok tt) → flag_of p ≡ 3 → Opened p
+  pub laid : (k : Described) (y : List ℕ) (ds : List (List ℕ)) → Laid k y ds → (parts_of k y ≡ record { list = ds; end = true }) × (section_verdict k y ≡ (Ok tt))
+  pub accepts : (p : List ℕ) → flag_of p ≡ 3 → 21 + length_of p ≤ length p → 104 ≤ length_of p → ((k : Described) → section_verdict k (payload_of p) ≡ (Ok tt)) → umf_verdict p ≡ (Ok tt)
   -- what is found by its number stands in the packet where it is said to, and is whole
-  pub stands : (k : Described) (n : ℕ) (p : List ℕ) (q : ℕ) (d : List ℕ) → umf_verdict p ≡ Accepted → nth_in k n p ≡ found q d
+  pub stands : (k : Described) (n : ℕ) (p : List ℕ) (q : ℕ) (d : List ℕ) → umf_verdict p ≡ (Ok tt) → nth_in k n p ≡ found q d
       → (21 ≤ q) × (q + length d ≤ 21 + length_of p) × (d ≡ take (length d) (drop q p)) × (least_of k ≤ length d)
   -- of a UMF that is not opened the preamble alone counts, and whether the packet holds what it states
   pub closed : (p q : List ℕ) → (flag_of p ≡ 3 → ⊥) → flag_of q ≡ flag_of p → length_of q ≡ length_of p → 21 + length_of p ≤ length p → 21 + length_of p ≤ length q
-      → (umf_verdict p ≡ Accepted) × (umf_verdict q ≡ Accepted) × ((k : Described) (n : ℕ) → (nth_in k n p ≡ missing) × (nth_in k n q ≡ missing))
+      → (umf_verdict p ≡ (Ok tt)) × (umf_verdict q ≡ (Ok tt)) × ((k : Described) (n : ℕ) → (nth_in k n p ≡ missing) × (nth_in k n q ≡ missing))

@@ -1,10 +1,11 @@
 -- A section walked, a turn at a time, and what a step tells.
 use Prim.Native.Nat.{ℕ, suc, ◌+◌, ◌-◌, ◌<◌, ◌≤◌}
 use mathlib.Core.Path.{◌≡◌, refl, sym, ◌∙◌}
+use mathlib.Core.Logic.{◌⊎◌, inl, inr}
 use mathlib.Core.Bool.{Bool, true, false}
 use mathlib.Core.List.{List}
 use native.Mathlib.Omega.{arith}
-use native.Mathlib.Nat.{add-zero, zero-add}
+use native.Mathlib.Nat.{add-zero}
 use lib.ListN.{length, take, drop, length-drop}
 use lib.Seq.{length-take-le, drop-drop, take_all}
 use lib.Dec.{leb, eqb}
@@ -23,6 +24,15 @@ under least left m h = go (leb least m) refl
     go : (b : Bool) → leb least m ≡ b → pick b (leb m left) false ≡ false
     go true e = lt-leb m left (omega (arith, leb-true least m e))
     go false e = refl
+
+-- nor does one under them, or over what is left
+pub outside : (least left m : ℕ) → (m < least) ⊎ ((least ≤ m) × (left < m)) → within least left m ≡ false
+outside least left m (inl h) = rw (lt-leb least m h)
+outside least left m (inr h) = go (leb least m)
+  where
+    go : (b : Bool) → pick b (leb m left) false ≡ false
+    go true = lt-leb m left h.1
+    go false = refl
 
 -- one more has its fixed fields and stands within what is left
 pub record Fits (k : Described) (s : List ℕ) (m : ℕ) : Type 0 where
@@ -56,13 +66,13 @@ pub record Left (k : Described) (d : List ℕ) (count at i : ℕ) : Type 0 where
   pub few : i ≤ count
   pub same : walked_of (split_of k count d) ≡ added i at (walked_of (split_of k (count - i) (drop at d)))
 
-pub start : (k : Described) (d : List ℕ) (count : ℕ) → Left k d count 0 0
-start k d count = record { inside = omega arith; few = omega arith; same = let e : count - 0 ≡ count = omega arith in rw (e, zero-add, zero-add) }
-
 module _ (k : Described) (d : List ℕ) (count at i : ℕ) (l : Left k d count at i) where
-  pub on_all : count ≤ i → record { number = i; bytes = at; whole = true } ≡ walked_of (split_of k count d)
+  pub on_all : count ≤ i → record { number = count; bytes = at; whole = true } ≡ walked_of (split_of k count d)
   unfolding walk size_of
-  on_all h = let e : count - i ≡ 0 = omega arith in sym (l.same ∙ rw (e, add-zero i, add-zero at))
+  on_all h =
+      let e : count - i ≡ 0 = omega arith in
+      let f : i + 0 ≡ count = omega (arith, l.few) in
+      sym (l.same ∙ rw (e, f, add-zero at))
 
   module _ (h : i < count) where
     one : count - i ≡ suc (count - (i + 1))

@@ -1,21 +1,18 @@
 -- The UMF packet (RDD 14, clause 7.3 and Tables 15 and 16; 02, §1): its preamble, and of a whole UMF its payload, judged in the order of 7.3.2, at the first thing that does not fit.
-use Rattle.std.specs.Prelude.{ℕ, zero, suc, ◌+◌, Bool, List, [], ◌∷◌, length, get_or, take, drop, ltb, eqb}
+use Rattle.std.specs.Prelude.{ℕ, zero, suc, ◌+◌, Bool, List, [], ◌∷◌, length, get_or, take, drop, ltb, eqb, Result, Ok, Err, ⊤}
 use Rattle.plate.specs.Choice.{pick}
 use Rattle.plate.specs.Plate.{refusal}
 use Rattle.plate.specs.declared.Refusal.{Refusal}
 use Rattle.number.specs.Number.{be, le}
 use Rattle.packet.specs.Packet.{packet_at, type_umf}
-use Rattle.packet.specs.declared.PacketAnswer.{PacketAnswer}
-use Rattle.packet.specs.declared.PacketAnswer.TheVariants as packet
 use Rattle.map_items.specs.Judge.{bad, and_then}
 use Rattle.map_items.specs.Find.{Found, missing, found}
-use Rattle.map_items.specs.declared.Verdict.{Verdict}
-use Rattle.map_items.specs.declared.Verdict.TheVariants as verdict
 use Rattle.umf.specs.Split.{Parts, split_of, size_of}
 use Rattle.umf.specs.declared.Described.{Described}
 use Rattle.umf.specs.declared.Described.TheVariants.{Tracks, Segments, Users}
-use Rattle.umf.specs.declared.PlaceAnswer.{PlaceAnswer}
-use Rattle.umf.specs.declared.PlaceAnswer.TheVariants as place
+use Rattle.map_items.specs.declared.Part.{Part}
+use Rattle.packet.specs.declared.Packet.{Packet}
+use Rattle.plate.specs.declared.Fault.TheVariants as fault
 
 -- Table 15, behind the header: the flag, and the payload data length, most significant byte first
 abbrev pub flag_of : List ℕ → ℕ
@@ -54,21 +51,21 @@ unfoldable pub parts_of : Described → List ℕ → Parts
 parts_of k y = split_of k (count_of k y) (section_of k y)
 
 -- 30, the one refusal of a UMF's own, at a place of the packet
-abbrev pub bad30 : ℕ → Verdict
-bad30 p = bad 30 p
+abbrev pub bad30 : ℕ → Result ⊤ Refusal
+bad30 p = bad fault.UmfForm p
 
 -- a section that passes the payload, at its first byte; then the first in it that passes it or states a length under its fixed fields
-unfoldable pub section_verdict : Described → List ℕ → Verdict
+unfoldable pub section_verdict : Described → List ℕ → Result ⊤ Refusal
 section_verdict k y =
     pick (ltb (length y) (section_at k y + section_size k y)) (bad30 (21 + section_at k y))
-    (pick (parts_of k y).end verdict.Accepted (bad30 (21 + section_at k y + size_of (parts_of k y).list)))
+    (pick (parts_of k y).end (Ok tt) (bad30 (21 + section_at k y + size_of (parts_of k y).list)))
 
 -- the sections, each with what is in it before the next
-abbrev pub sections_verdict : List ℕ → Verdict
+abbrev pub sections_verdict : List ℕ → Result ⊤ Refusal
 sections_verdict y = and_then (section_verdict Tracks y) (and_then (section_verdict Segments y) (section_verdict Users y))
 
 -- a payload: the 48 bytes of Table 16, the 56 of Table 17, then the sections
-unfoldable pub payload_verdict : List ℕ → Verdict
+unfoldable pub payload_verdict : List ℕ → Result ⊤ Refusal
 payload_verdict y =
     pick (ltb (length y) 48) (bad30 21)
     (pick (ltb (length y) 104) (bad30 69) (sections_verdict y))
@@ -78,10 +75,10 @@ abbrev pub is_opened : List ℕ → Bool
 is_opened p = eqb (flag_of p) 3
 
 -- a packet's bytes: the preamble, which is 30 where its five bytes or the payload that it states pass the packet; then the payload of one that is opened
-unfoldable pub umf_verdict : List ℕ → Verdict
+unfoldable pub umf_verdict : List ℕ → Result ⊤ Refusal
 umf_verdict p =
     pick (ltb (length p) (21 + length_of p)) (bad30 16)
-    (pick (is_opened p) (payload_verdict (payload_of p)) verdict.Accepted)
+    (pick (is_opened p) (payload_verdict (payload_of p)) (Ok tt))
 
 -- number n, from 0, of some descriptions that begin at place b: where it begins, and its bytes
 unfoldable pub nth_from : ℕ → ℕ → List (List ℕ) → Found
@@ -102,19 +99,19 @@ pub data Asked : Type 0 where
   refused : Refusal → Asked
   answered : Found → Asked
 
-abbrev pub if_accepted : Described → ℕ → List ℕ → Verdict → Asked
-if_accepted k n p (verdict.Refused r) = refused r
-if_accepted k n p verdict.Accepted = answered (nth_in k n p)
+abbrev pub if_accepted : Described → ℕ → List ℕ → Result ⊤ Refusal → Asked
+if_accepted k n p (Err r) = refused r
+if_accepted k n p (Ok _) = answered (nth_in k n p)
 
-abbrev pub if_whole : List ℕ → ℕ → Described → ℕ → PacketAnswer → Asked
-if_whole s at k n (packet.Refused r) = refused r
-if_whole s at k n (packet.Whole w) = if_accepted k n (take w.len (drop at s)) (umf_verdict (take w.len (drop at s)))
+abbrev pub if_whole : List ℕ → ℕ → Described → ℕ → Result Packet Refusal → Asked
+if_whole s at k n (Err r) = refused r
+if_whole s at k n (Ok w) = if_accepted k n (take w.len (drop at s)) (umf_verdict (take w.len (drop at s)))
 
 unfoldable pub asked_at : List ℕ → ℕ → Described → ℕ → Asked
 asked_at s at k n = if_whole s at k n (packet_at s at type_umf)
 
 -- place and length, the place counted from the packet's first byte; 16 where it is missing
-unfoldable pub place_of : Asked → PlaceAnswer
-place_of (refused r) = place.Refused r
-place_of (answered missing) = place.Refused (refusal 16 0)
-place_of (answered (found q d)) = place.At q (length d)
+unfoldable pub place_of : Asked → Result Part Refusal
+place_of (refused r) = Err r
+place_of (answered missing) = Err (refusal fault.NotThere 0)
+place_of (answered (found q d)) = Ok (record { at = q; len = length d })

@@ -1,37 +1,30 @@
 -- What a UMF says (RDD 14, Tables 15 to 18 and 20; 02, §1): its preamble, payload and material descriptions, a track, a user record.
 -- Numbers without a list of values are as stored, reserved words are left out, and a number outside its list counts as absent.
-use Rattle.std.specs.Prelude.{ℕ, ◌+◌, ◌-◌, ◌*◌, ◌/◌, ◌%◌, ◌^◌, Bool, true, false, List, [], ◌∷◌, length, take, drop, eqb, leb}
+use Rattle.std.specs.Prelude.{ℕ, ◌+◌, ◌-◌, ◌*◌, ◌/◌, ◌%◌, ◌^◌, Bool, true, false, List, [], ◌∷◌, length, take, drop, eqb, leb, Option, Some, None, Result, Ok, Err, ⊤}
 use Rattle.plate.specs.Choice.{pick, within}
 use Rattle.plate.specs.Plate.{refusal}
 use Rattle.number.specs.Number.{le}
 use Rattle.packet.specs.Packet.{packet_at, type_umf}
-use Rattle.packet.specs.declared.PacketAnswer.{PacketAnswer}
-use Rattle.packet.specs.declared.PacketAnswer.TheVariants as packet
 use Rattle.map_items.specs.Judge.{has}
 use Rattle.map_items.specs.Find.{missing, found}
-use Rattle.map_items.specs.declared.Verdict.{Verdict}
-use Rattle.map_items.specs.declared.Verdict.TheVariants as verdict
-use Rattle.map_answer.specs.declared.Value.{Value}
-use Rattle.map_answer.specs.declared.Value.TheVariants as value
 use Rattle.umf.specs.Umf.{flag_of, length_of, payload_of, is_opened, parts_of, umf_verdict, Asked, refused, answered, asked_at}
 use Rattle.umf.specs.declared.Described.TheVariants.{Tracks, Users}
 use Rattle.umf_answer.specs.declared.Preamble.{Preamble}
 use Rattle.umf_answer.specs.declared.Payload.{Payload}
 use Rattle.umf_answer.specs.declared.Material.{Material}
-use Rattle.umf_answer.specs.declared.UmfAnswer.{UmfAnswer}
-use Rattle.umf_answer.specs.declared.UmfAnswer.TheVariants as umf
+use Rattle.umf_answer.specs.declared.UmfSays.{UmfSays}
+use Rattle.umf_answer.specs.declared.UmfSays.TheVariants as umf
 use Rattle.umf_answer.specs.declared.TrackSays.{TrackSays}
-use Rattle.umf_answer.specs.declared.TrackAnswer.{TrackAnswer}
-use Rattle.umf_answer.specs.declared.TrackAnswer.TheVariants as track
 use Rattle.umf_answer.specs.declared.Owner.{Owner}
 use Rattle.umf_answer.specs.declared.Owner.TheVariants as owner
 use Rattle.umf_answer.specs.declared.UserSays.{UserSays}
-use Rattle.umf_answer.specs.declared.UserAnswer.{UserAnswer}
-use Rattle.umf_answer.specs.declared.UserAnswer.TheVariants as user
+use Rattle.packet.specs.declared.Packet.{Packet}
+use Rattle.plate.specs.declared.Refusal.{Refusal}
+use Rattle.plate.specs.declared.Fault.TheVariants as fault
 
 -- a number as it is where a test holds, else absent: the one rule for values outside the tables
-abbrev pub shown_if : Bool → ℕ → Value
-shown_if b n = pick b (value.Is n) value.Absent
+abbrev pub shown_if : Bool → ℕ → Option ℕ
+shown_if b n = pick b (Some n) None
 
 -- Table 15: flags 0 to 3; other values are reserved
 unfoldable pub preamble_of : List ℕ → Preamble
@@ -75,23 +68,23 @@ material_says y =
       mpeg = le y (48 + 0x36) 2;
     }
 
--- an accepted packet's answer
-unfoldable pub says_of : List ℕ → UmfAnswer
+-- what an accepted packet says
+unfoldable pub says_of : List ℕ → UmfSays
 says_of p =
     pick (is_opened p)
     (umf.Opened (record { len = length_of p; payload = payload_says (payload_of p); material = material_says (payload_of p); users = length (parts_of Users (payload_of p)).list }))
     (umf.Closed (preamble_of p))
 
-abbrev pub if_accepted : List ℕ → Verdict → UmfAnswer
-if_accepted p (verdict.Refused r) = umf.Refused r
-if_accepted p verdict.Accepted = says_of p
+abbrev pub if_accepted : List ℕ → Result ⊤ Refusal → Result UmfSays Refusal
+if_accepted p (Err r) = Err r
+if_accepted p (Ok _) = Ok (says_of p)
 
-abbrev pub if_whole : List ℕ → ℕ → PacketAnswer → UmfAnswer
-if_whole s at (packet.Refused r) = umf.Refused r
-if_whole s at (packet.Whole w) = if_accepted (take w.len (drop at s)) (umf_verdict (take w.len (drop at s)))
+abbrev pub if_whole : List ℕ → ℕ → Result Packet Refusal → Result UmfSays Refusal
+if_whole s at (Err r) = Err r
+if_whole s at (Ok w) = if_accepted (take w.len (drop at s)) (umf_verdict (take w.len (drop at s)))
 
 -- the UMF packet at a position
-unfoldable pub umf_at : List ℕ → ℕ → UmfAnswer
+unfoldable pub umf_at : List ℕ → ℕ → Result UmfSays Refusal
 umf_at s at = if_whole s at (packet_at s at type_umf)
 
 -- Table 18: the letters of the types of tracks
@@ -117,7 +110,7 @@ is_track n =
     (pick (within 0x30 0x39 (n % 256)) true (pick (eqb (n / 256) 0x41) (within 0x41 0x56 (n % 256)) false))
     false
 
-abbrev pub track_shown : ℕ → Value
+abbrev pub track_shown : ℕ → Option ℕ
 track_shown n = shown_if (is_track n) n
 
 -- Table 18, a track description's bytes
@@ -136,23 +129,22 @@ user_of q d =
       owner = owner_of (le d 0x08 2);
       sequence = le d 0x0A 2;
       key = le d 0x0C 4;
-      at = q + 0x10;
-      len = length d - 18;
+      place = record { at = q + 0x10; len = length d - 18 };
     }
 
 -- 16 where there is no such
-abbrev pub track_in : Asked → TrackAnswer
-track_in (refused r) = track.Refused r
-track_in (answered missing) = track.Refused (refusal 16 0)
-track_in (answered (found q d)) = track.Says (track_of d)
+abbrev pub track_in : Asked → Result TrackSays Refusal
+track_in (refused r) = Err r
+track_in (answered missing) = Err (refusal fault.NotThere 0)
+track_in (answered (found q d)) = Ok (track_of d)
 
-unfoldable pub track_at : List ℕ → ℕ → ℕ → TrackAnswer
+unfoldable pub track_at : List ℕ → ℕ → ℕ → Result TrackSays Refusal
 track_at s at n = track_in (asked_at s at Tracks n)
 
-abbrev pub user_in : Asked → UserAnswer
-user_in (refused r) = user.Refused r
-user_in (answered missing) = user.Refused (refusal 16 0)
-user_in (answered (found q d)) = user.Says (user_of q d)
+abbrev pub user_in : Asked → Result UserSays Refusal
+user_in (refused r) = Err r
+user_in (answered missing) = Err (refusal fault.NotThere 0)
+user_in (answered (found q d)) = Ok (user_of q d)
 
-unfoldable pub user_at : List ℕ → ℕ → ℕ → UserAnswer
+unfoldable pub user_at : List ℕ → ℕ → ℕ → Result UserSays Refusal
 user_at s at n = user_in (asked_at s at Users n)

@@ -7,26 +7,24 @@ ghost use Rattle.number.specs.Number.{le};
 ghost use Rattle.packet.specs.Packet.{packet_at};
 ghost use Rattle.map_items.specs.Judge.{has};
 ghost use Rattle.umf.specs.Umf.{umf_verdict};
-ghost use Rattle.umf_answer.specs.Says.{shown_if, preamble_of, payload_says, time_of, material_says, says_of, if_accepted, umf_at, letters, is_track, track_shown, track_of, owner_of, user_of, track_at, user_at};
+ghost use Rattle.umf_answer.specs.Says.{shown_if, preamble_of, payload_says, time_of, material_says, says_of, umf_at, letters, is_track, track_shown, track_of, owner_of, user_of, track_at, user_at};
 
-use map_answer::Value;
-use map_items::Verdict;
-use packet::PacketAnswer;
+use map_items::Part;
 use plate::Refusal;
-use umf::{Described, PlaceAnswer};
+use umf::Described;
 
 // The preamble: its flag, if it is one, and the payload data length.
-#[derive(Clone, Copy)]
+#[derive(Clone, Copy, Debug, PartialEq, Eq)]
 pub struct Preamble {
-    pub flag: Value,
+    pub flag: Option<u32>,
     pub len: u32,
 }
 
 // The payload description: the length of all, the version, the numbers of tracks and segments, and where the sections stand.
-#[derive(Clone, Copy)]
+#[derive(Clone, Copy, Debug, PartialEq, Eq)]
 pub struct Payload {
     pub total: u32,
-    pub version: Value,
+    pub version: Option<u32>,
     pub tracks: u32,
     pub tracks_at: u32,
     pub tracks_size: u32,
@@ -38,7 +36,7 @@ pub struct Payload {
 }
 
 // The material description: attributes, lengths and marks in fields, time codes at the marks, two times, and the numbers of tracks.
-#[derive(Clone, Copy)]
+#[derive(Clone, Copy, Debug, PartialEq, Eq)]
 pub struct Material {
     pub attributes: u32,
     pub longest: u32,
@@ -55,7 +53,7 @@ pub struct Material {
 }
 
 // A whole UMF, flag 3: the payload data length, both descriptions, and the number of user records.
-#[derive(Clone, Copy)]
+#[derive(Clone, Copy, Debug, PartialEq, Eq)]
 pub struct Umf {
     pub len: u32,
     pub payload: Payload,
@@ -63,29 +61,23 @@ pub struct Umf {
     pub users: usize,
 }
 
-#[derive(Clone, Copy)]
-pub enum UmfAnswer {
+// What a UMF packet says.
+#[derive(Clone, Copy, Debug, PartialEq, Eq)]
+pub enum UmfSays {
     Opened(Umf),
     // A part of a UMF split over packets, or of a reserved flag.
     Closed(Preamble),
-    Refused(Refusal),
 }
 
 // A track: its type's letter and its number in one number, and how many segments it has.
-#[derive(Clone, Copy)]
+#[derive(Clone, Copy, Debug, PartialEq, Eq)]
 pub struct TrackSays {
-    pub track: Value,
+    pub track: Option<u32>,
     pub segments: u32,
 }
 
-#[derive(Clone, Copy)]
-pub enum TrackAnswer {
-    Says(TrackSays),
-    Refused(Refusal),
-}
-
 // The track that a user record is of.
-#[derive(Clone, Copy)]
+#[derive(Clone, Copy, Debug, PartialEq, Eq)]
 pub enum Owner {
     Track(u32),
     NoTrack,
@@ -93,20 +85,13 @@ pub enum Owner {
 }
 
 // A user record: its position, track, media sequence number and key, and where its data stands.
-#[derive(Clone, Copy)]
+#[derive(Clone, Copy, Debug, PartialEq, Eq)]
 pub struct UserSays {
     pub position: u32,
     pub owner: Owner,
     pub sequence: u32,
     pub key: u32,
-    pub at: usize,
-    pub len: usize,
-}
-
-#[derive(Clone, Copy)]
-pub enum UserAnswer {
-    Says(UserSays),
-    Refused(Refusal),
+    pub place: Part,
 }
 
 // A number of four bytes.
@@ -126,13 +111,10 @@ pub fn half(d: &[u8], at: usize) -> u32
 }
 
 // A number where it is in its list, else absent.
-pub fn shown_if(listed: bool, n: u32) -> Value
+pub fn shown_if(listed: bool, n: u32) -> Option<u32>
     ensures { result ≡ shown_if listed n }
 {
-    if listed {
-        return Value::Is(n);
-    }
-    Value::Absent
+    listed.then_some(n)
 }
 
 fn preamble_says(p: &[u8]) -> Preamble
@@ -140,9 +122,8 @@ fn preamble_says(p: &[u8]) -> Preamble
     ensures { result ≡ preamble_of p.now }
 {
     let flag = p[16];
-    let listed = flag <= 3;
     Preamble {
-        flag: shown_if(listed, flag as u32),
+        flag: shown_if(flag <= 3, flag as u32),
         len: number::be4(p, 17) as u32,
     }
 }
@@ -197,73 +178,52 @@ fn material_says(y: &[u8]) -> Material
 }
 
 // What an accepted packet says.
-fn says(p: &[u8]) -> UmfAnswer
-    requires { umf_verdict p.now ≡ Verdict.Accepted }
+fn says(p: &[u8]) -> UmfSays
+    requires { umf_verdict p.now ≡ (Ok tt) }
     ensures { result ≡ says_of p.now }
 {
     if p[16] != 3 {
-        return UmfAnswer::Closed(preamble_says(p));
+        return UmfSays::Closed(preamble_says(p));
     }
     let n = number::be4(p, 17);
     let end = 21 + n;
     let y = &p[21..end];
-    let payload = payload_says(y);
-    let material = material_says(y);
-    let users = umf::number_of(y, Described::Users);
-    UmfAnswer::Opened(Umf {
+    UmfSays::Opened(Umf {
         len: n as u32,
-        payload,
-        material,
-        users,
+        payload: payload_says(y),
+        material: material_says(y),
+        users: umf::number_of(y, Described::Users),
     })
 }
 
-// The same, or 30.
-fn judged(p: &[u8]) -> UmfAnswer
-    ensures { result ≡ if_accepted p.now (umf_verdict p.now) }
-{
-    match umf::verdict_of(p) {
-        Verdict::Refused(r) => UmfAnswer::Refused(r),
-        Verdict::Accepted => says(p),
-    }
-}
-
 // The UMF packet at a position: refusals 1 to 6, then 30.
-pub fn read(s: &[u8], at: usize) -> UmfAnswer
+pub fn read(s: &[u8], at: usize) -> Result<UmfSays, Refusal>
     ensures { result ≡ umf_at s.now at }
 {
-    match packet::of_type(s, at, packet::UMF) {
-        PacketAnswer::Refused(r) => UmfAnswer::Refused(r),
-        PacketAnswer::Whole(w) => {
-            let len = w.len;
-            let end = at + len;
-            judged(&s[at..end])
-        }
-    }
+    let w = packet::of_type(s, at, packet::UMF)?;
+    let end = at + w.len;
+    let p = &s[at..end];
+    umf::verdict_of(p)?;
+    Ok(says(p))
 }
 
 // Whether a byte is the letter of a type of tracks: A D E F H I L M N T V.
 fn is_letter(b: u32) -> bool
     ensures { result ≡ has b letters }
 {
-    let list: [u32; 11] = [
-        0x41, 0x44, 0x45, 0x46, 0x48, 0x49, 0x4C, 0x4D, 0x4E, 0x54, 0x56,
-    ];
-    is_in(&list, b)
+    is_in(
+        &[
+            0x41, 0x44, 0x45, 0x46, 0x48, 0x49, 0x4C, 0x4D, 0x4E, 0x54, 0x56,
+        ],
+        b,
+    )
 }
 
 // Whether a number is in a list.
 pub fn is_in(list: &[u32], n: u32) -> bool
     ensures { result ≡ has n list.now }
 {
-    let mut i: usize = 0;
-    while i < list.len() {
-        if list[i] == n {
-            return true;
-        }
-        i += 1;
-    }
-    false
+    list.contains(&n)
 }
 
 // Whether a number of 16 bits is a track: a letter and 0 to 9, of audio tracks A to V too.
@@ -271,23 +231,11 @@ pub fn is_track(n: u32) -> bool
     ensures { result ≡ is_track n }
 {
     let letter = n / 256;
-    let k = n % 256;
-    if !is_letter(letter) {
-        return false;
+    match n % 256 {
+        0x30..=0x39 => is_letter(letter),
+        0x41..=0x56 => letter == 0x41,
+        _ => false,
     }
-    if k < 0x30 {
-        return false;
-    }
-    if k <= 0x39 {
-        return true;
-    }
-    if letter != 0x41 {
-        return false;
-    }
-    if k < 0x41 {
-        return false;
-    }
-    k <= 0x56
 }
 
 fn track_says(d: &[u8]) -> TrackSays
@@ -304,13 +252,11 @@ fn track_says(d: &[u8]) -> TrackSays
 fn owner_of(n: u32) -> Owner
     ensures { result ≡ owner_of n }
 {
-    if n == 0 {
-        return Owner::NoTrack;
+    match n {
+        0 => Owner::NoTrack,
+        _ if is_track(n) => Owner::Track(n),
+        _ => Owner::Absent,
     }
-    if is_track(n) {
-        return Owner::Track(n);
-    }
-    Owner::Absent
 }
 
 // What a user record's bytes say, which begin at place q of the packet.
@@ -323,35 +269,29 @@ fn user_says(d: &[u8], q: usize) -> UserSays
         owner: owner_of(half(d, 8)),
         sequence: half(d, 10),
         key: word(d, 12),
-        at: q + 16,
-        len: d.len() - 18,
+        place: Part {
+            at: q + 16,
+            len: d.len() - 18,
+        },
     }
 }
 
 // A track of the UMF packet at a position, by its number from 0: refusals 1 to 6, 30, then 16.
-pub fn track(s: &[u8], at: usize, n: usize) -> TrackAnswer
+pub fn track(s: &[u8], at: usize, n: usize) -> Result<TrackSays, Refusal>
     ensures { result ≡ track_at s.now at n }
 {
-    match umf::place(s, at, Described::Tracks, n) {
-        PlaceAnswer::Refused(r) => TrackAnswer::Refused(r),
-        PlaceAnswer::At(q, m) => {
-            let from = at + q;
-            let to = from + m;
-            TrackAnswer::Says(track_says(&s[from..to]))
-        }
-    }
+    let part = umf::place(s, at, Described::Tracks, n)?;
+    let from = at + part.at;
+    let to = from + part.len;
+    Ok(track_says(&s[from..to]))
 }
 
 // A user record of the UMF packet at a position, by its number from 0: refusals 1 to 6, 30, then 16. The place of its data counts from the packet's first byte.
-pub fn user(s: &[u8], at: usize, n: usize) -> UserAnswer
+pub fn user(s: &[u8], at: usize, n: usize) -> Result<UserSays, Refusal>
     ensures { result ≡ user_at s.now at n }
 {
-    match umf::place(s, at, Described::Users, n) {
-        PlaceAnswer::Refused(r) => UserAnswer::Refused(r),
-        PlaceAnswer::At(q, m) => {
-            let from = at + q;
-            let to = from + m;
-            UserAnswer::Says(user_says(&s[from..to], q))
-        }
-    }
+    let part = umf::place(s, at, Described::Users, n)?;
+    let from = at + part.at;
+    let to = from + part.len;
+    Ok(user_says(&s[from..to], part.at))
 }

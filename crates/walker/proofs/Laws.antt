@@ -4,9 +4,9 @@ use mathlib.Core.Path.{◌≡◌, refl, sym, ap, ◌∙◌}
 use mathlib.Core.List.{List}
 use native.Mathlib.Omega.{arith}
 use lib.ListN.{length, take, drop}
+use Rattle.std.specs.Prelude.{Result, Ok, Err}
 use Rattle.packet.specs.Packet.{header_at}
 use Rattle.packet.specs.declared.Packet.{Packet}
-use Rattle.packet.specs.declared.PacketAnswer.TheVariants.{Whole, Refused}
 use Rattle.packet.specs.Lacking.{Lacking}
 use Rattle.packet.proofs.Laws.{whole, by_header}
 use Rattle.packet.proofs.Torn.{lacking}
@@ -19,25 +19,24 @@ use native.Mathlib.Nat.{zero-add, suc-add}
 use borrow.Author.Tests.{ltb-false}
 use lib.Dec.{ltb}
 use Rattle.plate.specs.Choice.{pick}
-use Rattle.packet.specs.declared.PacketAnswer.{PacketAnswer}
 use Rattle.walker.specs.declared.Stop.{Stop}
 use Rattle.walker.specs.declared.Walker.{Walker}
 
 -- a refused step leaves the place, and so do all after it
-pub refused_stays : (s : List ℕ) (at : ℕ) (r : Refusal) (n : ℕ) → header_at s at ≡ Refused r → place_of s at n ≡ at
+pub refused_stays : (s : List ℕ) (at : ℕ) (r : Refusal) (n : ℕ) → header_at s at ≡ Err r → place_of s at n ≡ at
 unfolding place_of place_after
 refused_stays s at r zero e = refl
 refused_stays s at r (suc n) e = rw (refused_stays s at r n e, e)
 
 -- a step moves behind a whole packet: by 16 bytes at least, and not past the stream's end
-pub moves_on : (s : List ℕ) (at : ℕ) (p : Packet) → header_at s at ≡ Whole p
+pub moves_on : (s : List ℕ) (at : ℕ) (p : Packet) → header_at s at ≡ Ok p
     → (place_after at (header_at s at) ≡ at + p.len) × (at + 16 ≤ place_after at (header_at s at)) × (place_after at (header_at s at) ≤ length s)
 unfolding place_after
 moves_on s at p e = let g = whole s at p e in rw e (refl, omega (arith, g.least), omega (arith, g.within, g.least))
 
 -- over the contract: two walkers at one place, over streams that have the same sixteen bytes of header there and as many bytes left, give the same answer and move alike;
 -- so a step looks at no byte behind the header that it answers for
-pub alone : (w v : Walker) (r t : PacketAnswer) (x y : Walker) → w.at ≡ v.at
+pub alone : (w v : Walker) (r t : Result Packet Refusal) (x y : Walker) → w.at ≡ v.at
     → take 16 (drop w.at w.stream.now) ≡ take 16 (drop w.at v.stream.now)
     → length w.stream.now - w.at ≡ length v.stream.now - w.at
     → Stepped w r x → Stepped v t y
@@ -49,16 +48,16 @@ alone w v r t x y e f l g k =
     (g.0 ∙ (a ∙ sym k.0), ap (λ (z : Walker). z.at) g.1 ∙ (b ∙ sym (ap (λ (z : Walker). z.at) k.1)))
 
 -- over the contract: a refused step leaves the walker as it was
-pub step_refused : (w : Walker) (r : Refusal) (v : Walker) → Stepped w (Refused r) v → v ≡ w
+pub step_refused : (w : Walker) (r : Refusal) (v : Walker) → Stepped w (Err r) v → v ≡ w
 unfolding Stepped place_after
 step_refused w r v g = g.1 ∙ rw (← g.0)
 
 -- of bytes that lack a refused step says what the header at its place does, and so does a walk that comes to a refusal
-pub step_lacking : (w : Walker) (r : Refusal) (v : Walker) → Stepped w (Refused r) v → Lacking w.stream.now w.at r
+pub step_lacking : (w : Walker) (r : Refusal) (v : Walker) → Stepped w (Err r) v → Lacking w.stream.now w.at r
 unfolding Stepped
 step_lacking w r v g = lacking w.stream.now w.at r (sym g.0)
 
-pub walk_lacking : (s : List ℕ) (at n : ℕ) (x : Stop) → x ≡ walk_of s at n → (x.answer ≡ header_at s x.at) × ((r : Refusal) → x.answer ≡ Refused r → Lacking s x.at r)
+pub walk_lacking : (s : List ℕ) (at n : ℕ) (x : Stop) → x ≡ walk_of s at n → (x.answer ≡ header_at s x.at) × ((r : Refusal) → x.answer ≡ Err r → Lacking s x.at r)
 unfolding walk_of
 walk_lacking s at n x e =
     let there : x.at ≡ place_of s at n = ap (λ (y : Stop). y.at) e in
@@ -76,7 +75,7 @@ record Stuck (s : List ℕ) (at k : ℕ) : Type 0 where
 abbrev Moved : List ℕ → ℕ → ℕ → Type 0
 Moved s at k = (at + 16 * suc k ≤ place_of s at (suc k)) × (place_of s at (suc k) ≤ length s)
 
-refused_there : (s : List ℕ) (at k : ℕ) (r : Refusal) → header_at s (place_of s at k) ≡ Refused r → place_of s at (suc k) ≡ place_of s at k
+refused_there : (s : List ℕ) (at k : ℕ) (r : Refusal) → header_at s (place_of s at k) ≡ Err r → place_of s at (suc k) ≡ place_of s at k
 unfolding place_of place_after
 refused_there s at k r e = rw e
 
@@ -87,9 +86,9 @@ next_place s at k = refl
 one_step : (s : List ℕ) (at k : ℕ) → at + 16 * k ≤ place_of s at k → Stuck s at (suc k) ⊎ Moved s at k
 one_step s at k h = go (header_at s (place_of s at k)) refl
   where
-    go : (a : PacketAnswer) → header_at s (place_of s at k) ≡ a → Stuck s at (suc k) ⊎ Moved s at k
-    go (Refused r) e = inl (record { step = k; before = omega arith; stays = refused_there s at k r e })
-    go (Whole p) e =
+    go : (a : Result Packet Refusal) → header_at s (place_of s at k) ≡ a → Stuck s at (suc k) ⊎ Moved s at k
+    go (Err r) e = inl (record { step = k; before = omega arith; stays = refused_there s at k r e })
+    go (Ok p) e =
         let m = moves_on s (place_of s at k) p e in
         let n = next_place s at k in
         inr (omega (arith, m.1), omega (arith, m.2))

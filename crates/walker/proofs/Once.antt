@@ -3,10 +3,12 @@ use Prim.Native.Nat.{ℕ}
 use mathlib.Core.Path.{◌≡◌, sym, ◌∙◌}
 use mathlib.Core.List.{List}
 use denote.Ref.{Bor}
+use Rattle.std.specs.Prelude.{Result}
 use Rattle.plate.proofs.Outcome.{OneAnswer}
-use Rattle.packet.specs.declared.PacketAnswer.{PacketAnswer}
 use Rattle.walker.specs.Walk.{Made, Stepped}
 use Rattle.walker.specs.declared.Walker.{Walker}
+use Rattle.packet.specs.declared.Packet.{Packet}
+use Rattle.plate.specs.declared.Refusal.{Refusal}
 use Rattle.walker.proofs.walk.Kinds as walk-kinds
 use Rattle.walker.proofs.walk.Reads as walk-reads
 
@@ -15,7 +17,7 @@ unfolding Made
 make_once s at v w p q = p ∙ sym q
 
 -- the answer, and the whole struct
-pub step_once : (w : Walker) (r t : PacketAnswer) (u v : Walker) → Stepped w r u → Stepped w t v → (r ≡ t) × (u ≡ v)
+pub step_once : (w : Walker) (r t : Result Packet Refusal) (u v : Walker) → Stepped w r u → Stepped w t v → (r ≡ t) × (u ≡ v)
 unfolding Stepped
 step_once w r t u v p q = (p.0 ∙ sym q.0, p.1 ∙ sym q.1)
 

@@ -3,42 +3,27 @@
 #![tactic(auto)]
 
 ghost use Rattle.std.specs.Prelude.{◌≡◌, length};
-ghost use Rattle.packet.specs.Packet.{header_at};
-ghost use Rattle.walker.specs.Walk.{place_after, Made, Stepped, stop, walk_of};
+ghost use Rattle.walker.specs.Walk.{Made, Stepped, walk_of};
 ghost use Rattle.walker.specs.Inside.{turns_of};
 
-use packet::PacketAnswer;
+use packet::Packet;
+use plate::Refusal;
 
-#[derive(Clone, Copy)]
+#[derive(Clone, Copy, PartialEq, Eq, Debug)]
 pub struct Walker<'a> {
     pub stream: &'a [u8],
     pub at: usize,
 }
 
 // Where a walk stops: the place, and what stands there.
-#[derive(Clone, Copy)]
+#[derive(Clone, Copy, PartialEq, Eq, Debug)]
 pub struct Stop {
     pub at: usize,
-    pub answer: PacketAnswer,
-}
-
-// The place after a step: behind a whole packet; the same place where the step is refused.
-fn after(s: &[u8], at: usize) -> usize
-    ensures { result ≡ place_after at (header_at s.now at) }
-{
-    match packet::header(s, at) {
-        PacketAnswer::Whole(p) => at + p.len,
-        PacketAnswer::Refused(_) => at,
-    }
-}
-
-fn stop_at(at: usize, answer: PacketAnswer) -> Stop
-    ensures { result ≡ stop at answer }
-{
-    Stop { at, answer }
+    pub answer: Result<Packet, Refusal>,
 }
 
 // A walker at a place of a stream.
+#[tactic(auto, unfolding(crate::specs::Walk::Made))]
 pub fn make<'a>(stream: &'a [u8], at: usize) -> Walker<'a>
     ensures { Made stream.entry at result }
 {
@@ -46,45 +31,35 @@ pub fn make<'a>(stream: &'a [u8], at: usize) -> Walker<'a>
 }
 
 // A step: what stands at the walker's place. The walker moves behind a whole packet, and stays where the step is refused.
-pub fn step<'s, 'a>(w: &'s mut Walker<'a>) -> PacketAnswer
+#[tactic(auto, unfolding(crate::specs::Walk::Stepped, crate::specs::Walk::place_after))]
+pub fn step<'s, 'a>(w: &'s mut Walker<'a>) -> Result<Packet, Refusal>
     ensures { Stepped w.old result w.new }
 {
-    let stream = w.stream;
-    let at = w.at;
-    let answer = packet::header(stream, at);
-    w.at = after(stream, at);
+    let answer = packet::header(w.stream, w.at);
+    if let Ok(p) = answer {
+        w.at += p.len;
+    }
     answer
 }
 
-// A walker that is made, takes n steps and one more: where it stood then, and what it met.
-fn steps(s: &[u8], at: usize, n: usize) -> Stop
-    ensures { result ≡ walk_of s.now at n }
-{
-    let mut w = make(s, at);
-    let mut i: usize = 0;
-    while i < n {
-        step(&mut w);
-        i += 1;
-    }
-    let place = w.at;
-    let answer = step(&mut w);
-    stop_at(place, answer)
-}
-
 // So many of n steps that the others stay where they are: a packet has 16 bytes at least.
+#[tactic(auto, unfolding(crate::specs::Inside::turns_of))]
 fn turns(s: &[u8], n: usize) -> usize
     ensures { result ≡ turns_of (length s.now) n }
 {
-    let most = s.len() / 16 + 1;
-    if n < most {
-        return n;
-    }
-    most
+    n.min(s.len() / 16 + 1)
 }
 
-// Where a walker stops after n steps from a place of a stream, and what its next step gives.
+// Where a walker that is made at a place of a stream stops after n steps, and what its next step gives.
 pub fn walk(s: &[u8], at: usize, n: usize) -> Stop
     ensures { result ≡ walk_of s.now at n }
 {
-    steps(s, at, turns(s, n))
+    let mut w = make(s, at);
+    for _ in 0..turns(s, n) {
+        let _ = step(&mut w);
+    }
+    Stop {
+        at: w.at,
+        answer: step(&mut w),
+    }
 }

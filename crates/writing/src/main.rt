@@ -2,10 +2,7 @@
 #![tactic(auto)]
 
 use console::{figure, say};
-use locator::PositionAnswer;
-use map::{MapAnswer, TrackAnswer};
-use map_answer::{Material, Value};
-use packet_writer::WriteAnswer;
+use map_answer::Material;
 use plate::Refusal;
 
 fn refused(r: Refusal) {
@@ -13,82 +10,65 @@ fn refused(r: Refusal) {
     say(b"\n");
 }
 
-fn show_answer(answer: WriteAnswer) {
+fn show_answer(answer: Result<usize, Refusal>) {
     match answer {
-        WriteAnswer::Length(n) => {
+        Ok(n) => {
             say(b"length");
             figure(n as u64);
             say(b"\n");
         }
-        WriteAnswer::Refused(r) => {
-            refused(r);
-        }
+        Err(r) => refused(r),
     }
 }
 
 // Sets a slot of a record: present, with its two words.
 fn set_slot(record: &mut [u64], slot: usize, first: u64, second: u64) {
-    if record.len() < 3 {
-        return;
+    if 3 <= record.len() && slot <= record.len() - 3 {
+        record[slot..slot + 3].copy_from_slice(&[map_given::PRESENT, first, second]);
     }
-    if record.len() - 3 < slot {
-        return;
-    }
-    record[slot] = map_given::PRESENT;
-    record[slot + 1] = first;
-    record[slot + 2] = second;
 }
 
 // The bytes of a buffer, in decimal.
 fn show_bytes(bytes: &[u8]) {
-    let mut i: usize = 0;
-    while i < bytes.len() {
-        figure(number::wide(bytes[i]) as u64);
-        i += 1;
+    for &b in bytes {
+        figure(u64::from(b));
     }
     say(b"\n");
 }
 
 fn show_first(m: Material) {
-    let first = m.first;
-    match first {
-        Value::Is(n) => {
+    match m.first {
+        Some(n) => {
             say(b"first field");
-            figure(n as u64);
+            figure(u64::from(n));
             say(b"\n");
         }
-        Value::Absent => {
-            say(b"no first field\n");
-        }
+        None => say(b"no first field\n"),
     }
 }
 
 fn show_map(out: &[u8], at: usize) {
     match map::read(out, at) {
-        MapAnswer::Says(a) => {
+        Ok(a) => {
             say(b"tracks");
             figure(a.count as u64);
             say(b"\n");
             show_first(a.material);
         }
-        MapAnswer::Refused(r) => {
-            refused(r);
-        }
+        Err(r) => refused(r),
     }
 }
 
 fn show_track(out: &[u8], at: usize) {
     match map::track(out, at, 0) {
-        TrackAnswer::Record(t) => {
+        Ok(t) => {
             say(b"track");
-            figure(t.id as u64);
+            figure(u64::from(t.id));
             say(b" type");
-            figure(t.media_type as u64);
+            figure(u64::from(t.media_type));
             say(b"\n");
         }
-        TrackAnswer::Refused(r) => {
-            refused(r);
-        }
+        Err(r) => refused(r),
     }
 }
 
@@ -114,7 +94,7 @@ fn write_first_field(first: u64, at: usize) {
     set_slot(&mut material, map_given::FIRST_FIELD, first, 0);
     let track = [0u64; 23];
     let mut out = [7u8; 64];
-    show_answer(map_writer::write(&mut out, at, b"", &material, &track[0..0]));
+    show_answer(map_writer::write(&mut out, at, b"", &material, &[]));
 }
 
 // The material of the largest map: the text as its name, and 1 for each number.
@@ -144,15 +124,8 @@ fn fill_track(track: &mut [u64], id: u64) {
 
 // Its tracks, with IDs from 0 on.
 fn fill_tracks(tracks: &mut [u64]) {
-    let mut at: usize = 0;
-    let mut id: u64 = 0;
-    while id < 64 {
-        if tracks.len() < at {
-            return;
-        }
-        fill_track(&mut tracks[at..], id);
-        at += map_given::TRACK_WORDS;
-        id += 1;
+    for (id, track) in tracks.chunks_exact_mut(map_given::TRACK_WORDS).enumerate() {
+        fill_track(track, id as u64);
     }
 }
 
@@ -175,14 +148,12 @@ fn write_locator() {
     let mut out = [7u8; 28];
     show_answer(locator_writer::write(&mut out, 0, 40, &offsets));
     match locator::position(&out, 0, 39) {
-        PositionAnswer::At(o) => {
+        Ok(o) => {
             say(b"at");
             figure(o as u64);
             say(b"\n");
         }
-        PositionAnswer::Refused(r) => {
-            refused(r);
-        }
+        Err(r) => refused(r),
     }
 }
 

@@ -10,8 +10,8 @@ loop-at-init c = (omega arith, omega arith, count_begin _ c.requires)
 pub seen_at-x-requires : goal.seen_at-x-requires
 seen_at-x-requires c = can_see _ _ _ _ c.loop-at.invariant.2.left c.loop-at-test.true
 
-pub overflow_add-e : goal.overflow_add-e
-overflow_add-e c = let l = c.loop-at in let w = is_told _ _ _ _ l.invariant.2.left c.loop-at-test.true in omega (arith, w.cut.within, ap (λ (y : Piece). y.len) c.seen_at-x.ensures)
+pub overflow_add-at : goal.overflow_add-at
+overflow_add-at c = let l = c.loop-at in let w = is_told _ _ _ _ l.invariant.2.left c.loop-at-test.true in omega (arith, w.cut.within, ap (λ (y : Piece). y.len) c.seen_at-x.ensures)
 
 pub overflow_add-n : goal.overflow_add-n
 overflow_add-n c = omega (arith, c.records_of-n.ensures, one_here c.seen_at-x.result)

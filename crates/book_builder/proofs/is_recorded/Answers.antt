@@ -1,11 +1,11 @@
-use borrow.Author.Tests.{eq-eqb, ne_eqb}
+use Rattle.plate.proofs.Tests.{tests}
 use Rattle.book_builder.specs.BookBuilder.{recorded}
 use Rattle.book_builder.proofs.is_recorded.Goals as goal
 
-pub returns-then-x-ne-MEDIA : goal.returns-then-x-ne-MEDIA
+pub returns-then-x-eq-MEDIA : goal.returns-then-x-eq-MEDIA
 unfolding recorded
-returns-then-x-ne-MEDIA c = rw (ne_eqb _ _ c.if-x-ne-MEDIA.true)
+returns-then-x-eq-MEDIA c = search (tests, c.is_known.ensures)
 
-pub returns : goal.returns
+pub returns-else-x-eq-MEDIA : goal.returns-else-x-eq-MEDIA
 unfolding recorded
-returns c = rw (eq-eqb _ _ c.if-x-ne-MEDIA.false) c.is_known.ensures
+returns-else-x-eq-MEDIA c = search tests

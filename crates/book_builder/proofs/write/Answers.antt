@@ -8,7 +8,7 @@ use Rattle.piece.specs.declared.Piece.{Piece}
 use Rattle.stream.specs.Stream.{types_after}
 use Rattle.book_builder.proofs.Laws.{write_begin, write_out, write_room, write_next, can_see, is_told}
 use Rattle.book_builder.proofs.write.Goals as goal
-use Rattle.book_builder.proofs.write.Goals.{then-packet_type, else-packet_type}
+use Rattle.book_builder.proofs.write.Goals.{then-x, else-x}
 
 pub loop-at-init : goal.loop-at-init
 loop-at-init c = (search rules, search rules, write_begin _ _ c.requires.0)
@@ -22,21 +22,21 @@ overflow_add-e c = let l = c.loop-at in let w = is_told _ _ _ _ l.invariant.2.le
 pub slice_bounds-types_of-end : goal.slice_bounds-types_of-end
 slice_bounds-types_of-end c = let l = c.loop-at in let w = is_told _ _ _ _ l.invariant.2.left c.loop-at-test.true in omega (arith, w.cut.within, ap (λ (y : Piece). y.len) c.seen_at-x.ensures)
 
-pub bounds-types-k : goal.bounds-types-k
-bounds-types-k c = let l = c.loop-at in
+pub bounds-types-x : goal.bounds-types-x
+bounds-types-x c = let l = c.loop-at in
     let w = is_told _ _ _ _ l.invariant.2.left c.loop-at-test.true in
-    omega (arith, w.track, c.wide-k.ensures, ap (λ (y : Piece). y.track) c.seen_at-x.ensures)
+    omega (arith, w.track, ap (λ (y : Piece). y.track) c.seen_at-x.ensures)
 
 pub put_records-to-requires : goal.put_records-to-requires
 put_records-to-requires c = let l = c.loop-at in
     let e = c.seen_at-x.ensures in
-    let t : c.if-packet_type.types.media_types ≡ types_after c.args.s.now l.at c.seen_at-x.result l.types.media_types =
-    elim c.if-packet_type.branch [
-      | then-packet_type w ↦ rw (eq-eqb _ _ w.if-packet_type.true) (ap (λ (k : Types). k.media_types) w.types-is ∙ rw add-sub_cancel_left at w.types_of-types.ensures)
-      | else-packet_type w ↦ rw (ne_eqb _ _ w.if-packet_type.false) (ap (λ (k : Types). k.media_types) w.types-is)
+    let t : c.if-x.types.media_types ≡ types_after c.args.s.now l.at c.seen_at-x.result l.types.media_types =
+    elim c.if-x.branch [
+      | then-x w ↦ rw (eq-eqb _ _ w.if-x.true) (ap (λ (k : Types). k.media_types) w.types-is ∙ rw add-sub_cancel_left at w.types_of-types.ensures)
+      | else-x w ↦ rw (ne_eqb _ _ w.if-x.false) (ap (λ (k : Types). k.media_types) w.types-is)
     ] in
-    let w = write_room _ _ _ _ _ _ l.invariant.2 c.loop-at-test.true c.if-packet_type.types.media_types (rw e at t) in
-    rw (c.wide-k.ensures, e) (omega (arith, w, l.invariant.1, c.requires.1))
+    let w = write_room _ _ _ _ _ _ l.invariant.2 c.loop-at-test.true c.if-x.types.media_types (rw e at t) in
+    rw e (omega (arith, w, l.invariant.1, c.requires.1))
 
 pub loop-at-smaller : goal.loop-at-smaller
 loop-at-smaller c = let l = c.loop-at in let w = is_told _ _ _ _ l.invariant.2.left c.loop-at-test.true in omega (arith, w.cut.within, w.cut.least, ap (λ (y : Piece). y.len) c.seen_at-x.ensures)
@@ -47,14 +47,14 @@ loop-at-preserved c = let l = c.loop-at in
     let w = is_told _ _ _ _ l.invariant.2.left h in
     let e = c.seen_at-x.ensures in
     let m = ap (λ (y : Piece). y.len) e in
-    let t : c.if-packet_type.types.media_types ≡ types_after c.args.s.now l.at c.seen_at-x.result l.types.media_types =
-    elim c.if-packet_type.branch [
-      | then-packet_type w ↦ rw (eq-eqb _ _ w.if-packet_type.true) (ap (λ (k : Types). k.media_types) w.types-is ∙ rw add-sub_cancel_left at w.types_of-types.ensures)
-      | else-packet_type w ↦ rw (ne_eqb _ _ w.if-packet_type.false) (ap (λ (k : Types). k.media_types) w.types-is)
+    let t : c.if-x.types.media_types ≡ types_after c.args.s.now l.at c.seen_at-x.result l.types.media_types =
+    elim c.if-x.branch [
+      | then-x w ↦ rw (eq-eqb _ _ w.if-x.true) (ap (λ (k : Types). k.media_types) w.types-is ∙ rw add-sub_cancel_left at w.types_of-types.ensures)
+      | else-x w ↦ rw (ne_eqb _ _ w.if-x.false) (ap (λ (k : Types). k.media_types) w.types-is)
     ] in (
       omega (arith, w.cut.within, m),
       c.put_records-to.auto.out ∙ l.invariant.1,
-      rw m (write_next _ l.at l.to _ _ _ l.invariant.2 h c.if-packet_type.types.media_types (rw e at t) _ (rw (c.wide-k.ensures, e) at c.put_records-to.ensures.1) _ (rw (c.wide-k.ensures, e) at c.put_records-to.ensures.0)),
+      rw m (write_next _ l.at l.to _ _ _ l.invariant.2 h c.if-x.types.media_types (rw e at t) _ (rw e at c.put_records-to.ensures.1) _ (rw e at c.put_records-to.ensures.0)),
     )
 
 pub shape_of-out : goal.shape_of-out

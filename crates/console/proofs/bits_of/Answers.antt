@@ -12,8 +12,8 @@ no_nan nan h = subst T (sym h) tt
 no_nan (inf s) h = tt
 no_nan (fin s m e) h = tt
 
-pub float_to_bits-n : goal.float_to_bits-n
-float_to_bits-n c = no_nan _ c.if-x.true
+pub float_to_bits-result : goal.float_to_bits-result
+float_to_bits-result c = no_nan _ c.if-x.true
 
 pub returns-then-x : goal.returns-then-x
 unfolding bits_of

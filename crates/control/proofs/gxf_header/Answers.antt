@@ -2,10 +2,10 @@ use mathlib.Core.Path.{sym, ◌∙◌}
 use Rattle.control.specs.Control.{header_for_c}
 use Rattle.control.proofs.gxf_header.Goals as goal
 
-pub returns-in-Whole : goal.returns-in-Whole
+pub returns-in-Ok : goal.returns-in-Ok
 unfolding header_for_c
-returns-in-Whole c = simp (sym c.header.ensures ∙ c.in-Whole.is)
+returns-in-Ok c = simp (sym c.header.ensures ∙ c.in-Ok.is)
 
-pub returns-in-Refused : goal.returns-in-Refused
+pub returns-in-Err : goal.returns-in-Err
 unfolding header_for_c
-returns-in-Refused c = simp (sym c.header.ensures ∙ c.in-Refused.is)
+returns-in-Err c = simp (sym c.header.ensures ∙ c.in-Err.is, c.number.ensures)

@@ -2,10 +2,10 @@ use mathlib.Core.Path.{sym, ◌∙◌}
 use Rattle.control.specs.Control.{position_for_c}
 use Rattle.control.proofs.gxf_position.Goals as goal
 
-pub returns-in-At : goal.returns-in-At
+pub returns-in-Ok : goal.returns-in-Ok
 unfolding position_for_c
-returns-in-At c = simp (c.answered.ensures, sym c.position.ensures ∙ c.in-At.is)
+returns-in-Ok c = simp (c.answered.ensures, sym c.position.ensures ∙ c.in-Ok.is)
 
-pub returns-in-Refused : goal.returns-in-Refused
+pub returns-in-Err : goal.returns-in-Err
 unfolding position_for_c
-returns-in-Refused c = simp (c.refused.ensures, sym c.position.ensures ∙ c.in-Refused.is)
+returns-in-Err c = simp (c.refused.ensures, sym c.position.ensures ∙ c.in-Err.is)

@@ -1,11 +1,6 @@
-use mathlib.Core.Path.{sym, ◌∙◌}
 use Rattle.control.specs.Control.{seek_for_c}
 use Rattle.control.proofs.gxf_seek.Goals as goal
 
-pub returns-in-At : goal.returns-in-At
+pub returns : goal.returns
 unfolding seek_for_c
-returns-in-At c = simp (c.answered.ensures, sym c.seek.ensures ∙ c.in-At.is)
-
-pub returns-in-Refused : goal.returns-in-Refused
-unfolding seek_for_c
-returns-in-Refused c = simp (c.refused.ensures, sym c.seek.ensures ∙ c.in-Refused.is)
+returns c = rw (c.value.ensures, c.seek.ensures)

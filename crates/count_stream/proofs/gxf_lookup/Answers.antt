@@ -1,11 +1,6 @@
-use mathlib.Core.Path.{sym, ◌∙◌}
 use Rattle.count_stream.specs.Measure.{lookup_reading}
 use Rattle.count_stream.proofs.gxf_lookup.Goals as goal
 
-pub returns-in-At : goal.returns-in-At
+pub returns : goal.returns
 unfolding lookup_reading
-returns-in-At c = simp (c.answered.ensures, sym c.lookup.ensures ∙ c.in-At.is)
-
-pub returns-in-Refused : goal.returns-in-Refused
-unfolding lookup_reading
-returns-in-Refused c = simp (c.refused.ensures, sym c.lookup.ensures ∙ c.in-Refused.is)
+returns c = rw (c.value.ensures, c.lookup.ensures)

@@ -1,20 +1,9 @@
-use borrow.Author.Rules.{rules}
-use native.Mathlib.Omega.{arith}
-use mathlib.Core.Path.{refl, sym, ◌∙◌}
-use lib.ListN.{drop_of_length-le}
-use Rattle.locator_writer.specs.Write.{all_fit}
-use Rattle.locator_writer.proofs.Laws.{fit_on, fit_off}
+use Prim.Native.Nat.{◌≤◌, ◌<◌}
+use Rattle.std.proofs.Common.{rules, tests}
+use Rattle.std.proofs.lemmas.Iterator.{cases_from_all, YieldsList-from_slice}
+use Rattle.locator_writer.proofs.Back.{all_told}
 use Rattle.locator_writer.proofs.all_fit.Goals as goal
 
-pub loop-i-init : goal.loop-i-init
-loop-i-init c = (search rules, refl)
-
-pub returns-then-offsets-i-gt4294967295 : goal.returns-then-offsets-i-gt4294967295
-returns-then-offsets-i-gt4294967295 c = sym (c.loop-i.invariant.1 ∙ fit_off _ _ c.loop-i-test.true c.if-offsets-i-gt4294967295.true)
-
-pub loop-i-preserved : goal.loop-i-preserved
-loop-i-preserved c = (omega arith, c.loop-i.invariant.1 ∙ fit_on _ _ c.loop-i-test.true c.if-offsets-i-gt4294967295.false)
-
 pub returns : goal.returns
-unfolding all_fit
-returns c = sym (c.loop-i.invariant.1 ∙ rw (drop_of_length-le c.args.offsets.now c.loop-i-test.false))
+returns c = let ns = c.args.offsets.now in
+    all_told _ ns (cases_from_all _ _ _ (λ x. x ≤ 0xFFFFFFFF) (λ x. 0xFFFFFFFF < x) c.all.ensures.ran (YieldsList-from_slice ns cc) (λ x q k. search (rules, tests)) (λ x q k. search (rules, tests)))

@@ -1,11 +1,12 @@
 use mathlib.Core.Path.{sym, ◌∙◌}
+use Rattle.std.proofs.lemmas.Result.{err_from_is_err_and}
 use Rattle.map.specs.Map.{answer_of}
 use Rattle.map.proofs.answer_of.Goals as goal
 
-pub returns-in-Refused : goal.returns-in-Refused
+pub returns-in_err-verdict_of : goal.returns-in_err-verdict_of
 unfolding answer_of
-returns-in-Refused c = rw (sym c.verdict_of.ensures ∙ c.in-Refused.is)
+returns-in_err-verdict_of c = let p = err_from_is_err_and c.from_residual.result c.from_residual.ensures.1 in rw (p.1, p.2) (rw (sym c.verdict_of.ensures ∙ c.in_err-verdict_of.was))
 
-pub returns-in-Accepted : goal.returns-in-Accepted
+pub returns : goal.returns
 unfolding answer_of
-returns-in-Accepted c = rw (sym c.verdict_of.ensures ∙ c.in-Accepted.is, c.count_of-count.ensures, c.material_of-material.ensures)
+returns c = rw (sym c.verdict_of.ensures ∙ c.in_ok-verdict_of.was, c.count_of.ensures, c.material_of.ensures)

@@ -1,3 +1,4 @@
+use borrow.Author.Rules.{rules}
 use native.Mathlib.Omega.{arith}
 use mathlib.Core.Path.{sym, ◌∙◌}
 use Rattle.map.proofs.Laws.{both_within}
@@ -9,8 +10,5 @@ overflow_add-result c = let w = both_within _ _ _ (sym c.layout_of.ensures ∙ c
 pub returns-in-Both : goal.returns-in-Both
 returns-in-Both c = rw (sym c.layout_of.ensures ∙ c.in-Both.is)
 
-pub returns-in-One : goal.returns-in-One
-returns-in-One c = rw (sym c.layout_of.ensures ∙ c.in-One.is)
-
-pub returns-in-Neither : goal.returns-in-Neither
-returns-in-Neither c = rw (sym c.layout_of.ensures ∙ c.in-Neither.is)
+pub returns-in_default : goal.returns-in_default
+returns-in_default c = rw (sym c.layout_of.ensures) (search rules)

@@ -1,11 +1,12 @@
 use mathlib.Core.Path.{sym, ◌∙◌}
+use Rattle.std.proofs.lemmas.Result.{err_from_is_err_and}
 use Rattle.map.specs.Map.{both_verdict}
 use Rattle.map.proofs.judge_both.Goals as goal
 
-pub returns-in-Refused : goal.returns-in-Refused
+pub returns-in_err-judge : goal.returns-in_err-judge
 unfolding both_verdict
-returns-in-Refused c = rw (sym c.judge.ensures ∙ c.in-Refused.is)
+returns-in_err-judge c = let p = err_from_is_err_and c.from_residual.result c.from_residual.ensures.1 in rw (p.1, p.2) (rw (sym c.judge.ensures ∙ c.in_err-judge.was))
 
-pub returns-in-Accepted : goal.returns-in-Accepted
+pub returns : goal.returns
 unfolding both_verdict
-returns-in-Accepted c = rw (sym c.judge.ensures ∙ c.in-Accepted.is) c.judge-in-Accepted.ensures
+returns c = rw (sym c.judge.ensures ∙ c.in_ok-judge.was) c.judge-2.ensures

@@ -1,19 +1,20 @@
 use native.Mathlib.Omega.{arith}
 use mathlib.Core.Path.{sym, ◌∙◌}
+use Rattle.std.proofs.lemmas.Result.{err_from_is_err_and}
 use Rattle.packet.proofs.Laws.{typed, whole}
 use Rattle.map.specs.Map.{map_at}
 use Rattle.map.proofs.read.Goals as goal
 
-pub overflow_add-e : goal.overflow_add-e
-overflow_add-e c = let t = typed _ _ _ _ (sym c.of_type.ensures ∙ c.in-Whole.is) in let g = whole _ _ _ t.0 in omega arith
+pub overflow_add-at : goal.overflow_add-at
+overflow_add-at c = let t = typed _ _ _ _ (sym c.of_type.ensures ∙ c.in_ok-w.was) in let g = whole _ _ _ t.0 in omega arith
 
 pub slice_bounds-answer_of-end : goal.slice_bounds-answer_of-end
-slice_bounds-answer_of-end c = let t = typed _ _ _ _ (sym c.of_type.ensures ∙ c.in-Whole.is) in let g = whole _ _ _ t.0 in omega arith
+slice_bounds-answer_of-end c = let t = typed _ _ _ _ (sym c.of_type.ensures ∙ c.in_ok-w.was) in let g = whole _ _ _ t.0 in omega arith
 
-pub returns-in-Refused : goal.returns-in-Refused
+pub returns-in_err-w : goal.returns-in_err-w
 unfolding map_at
-returns-in-Refused c = rw (sym c.of_type.ensures ∙ c.in-Refused.is)
+returns-in_err-w c = let p = err_from_is_err_and c.from_residual.result c.from_residual.ensures.1 in rw (p.1, p.2) (rw (sym c.of_type.ensures ∙ c.in_err-w.was))
 
-pub returns-in-Whole : goal.returns-in-Whole
+pub returns : goal.returns
 unfolding map_at
-returns-in-Whole c = rw (sym c.of_type.ensures ∙ c.in-Whole.is) c.answer_of.ensures
+returns c = rw (sym c.of_type.ensures ∙ c.in_ok-w.was) c.answer_of.ensures

@@ -1,15 +1,12 @@
 use mathlib.Core.Path.{sym, ◌∙◌}
+use Rattle.std.proofs.lemmas.Result.{err_from_is_err_and}
 use Rattle.map.specs.Map.{track_in}
 use Rattle.map.proofs.track_of.Goals as goal
 
-pub returns-in-Refused : goal.returns-in-Refused
+pub returns-in_err-verdict_of : goal.returns-in_err-verdict_of
 unfolding track_in
-returns-in-Refused c = rw (sym c.verdict_of.ensures ∙ c.in-Refused.is)
+returns-in_err-verdict_of c = let p = err_from_is_err_and c.from_residual.result c.from_residual.ensures.1 in rw (p.1, p.2) (rw (sym c.verdict_of.ensures ∙ c.in_err-verdict_of.was))
 
-pub returns-in-Record : goal.returns-in-Record
+pub returns : goal.returns
 unfolding track_in
-returns-in-Record c = rw (sym c.verdict_of.ensures ∙ c.in-Accepted.is, sym c.kth_of.ensures ∙ c.in-Record.is)
-
-pub returns-in-Nothing : goal.returns-in-Nothing
-unfolding track_in
-returns-in-Nothing c = rw (sym c.verdict_of.ensures ∙ c.in-Accepted.is, sym c.kth_of.ensures ∙ c.in-Nothing.is, c.refuse.ensures)
+returns c = rw (c.ok_or.ensures.value, c.kth_of.ensures, c.refuse.ensures, sym c.verdict_of.ensures ∙ c.in_ok-verdict_of.was)

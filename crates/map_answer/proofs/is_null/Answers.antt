@@ -1,10 +1,10 @@
 use Rattle.map_answer.specs.Answer.{is_null}
 use Rattle.map_answer.proofs.is_null.Goals as goal
 
-pub returns-in-At : goal.returns-in-At
+pub returns-in-Some : goal.returns-in-Some
 unfolding is_null
-returns-in-At c = simp c.in-At.is
+returns-in-Some c = simp c.in-Some.is
 
-pub returns-in-Absent : goal.returns-in-Absent
+pub returns-in-None : goal.returns-in-None
 unfolding is_null
-returns-in-Absent c = simp c.in-Absent.is
+returns-in-None c = simp c.in-None.is

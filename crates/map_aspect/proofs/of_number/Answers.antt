@@ -1,15 +1,17 @@
 use Rattle.map_aspect.specs.Aspect.{aspect_for}
-use borrow.Author.Tests.{eq-eqb, ne_eqb}
+use borrow.Author.Tests.{ne_eqb}
+use mathlib.Core.Path.{refl}
+use native.Mathlib.Omega.{arith}
 use Rattle.map_aspect.proofs.of_number.Goals as goal
 
-pub returns-then-n-eq0 : goal.returns-then-n-eq0
+pub returns-in-0 : goal.returns-in-0
 unfolding aspect_for
-returns-then-n-eq0 c = simp (eq-eqb _ _ c.if-n-eq0.true)
+returns-in-0 c = rw c.in-0.is refl
 
-pub returns-then-n-eq1 : goal.returns-then-n-eq1
+pub returns-in-1 : goal.returns-in-1
 unfolding aspect_for
-returns-then-n-eq1 c = simp (ne_eqb _ _ c.if-n-eq0.false, eq-eqb _ _ c.if-n-eq1.true)
+returns-in-1 c = rw c.in-1.is refl
 
-pub returns : goal.returns
+pub returns-in_default : goal.returns-in_default
 unfolding aspect_for
-returns c = simp (ne_eqb _ _ c.if-n-eq0.false, ne_eqb _ _ c.if-n-eq1.false)
+returns-in_default c = let n = c.args.n in simp (ne_eqb n 0 (λ e. omega arith), ne_eqb n 1 (λ e. omega arith))

@@ -6,10 +6,10 @@ pub returns-then-id-gt63 : goal.returns-then-id-gt63
 unfolding flag_fault
 returns-then-id-gt63 c = simp (lt-ltb _ _ c.if-id-gt63.true)
 
-pub returns-then-used-k : goal.returns-then-used-k
+pub returns-then-used-id : goal.returns-then-used-id
 unfolding flag_fault
-returns-then-used-k c = simp (le-ltb _ _ c.if-id-gt63.false, c.if-used-k.true)
+returns-then-used-id c = simp (le-ltb _ _ c.if-id-gt63.false, c.if-used-id.true)
 
-pub returns : goal.returns
+pub returns-else-used-id : goal.returns-else-used-id
 unfolding flag_fault
-returns c = simp (le-ltb _ _ c.if-id-gt63.false, c.if-used-k.false)
+returns-else-used-id c = simp (le-ltb _ _ c.if-id-gt63.false, c.if-used-id.false)

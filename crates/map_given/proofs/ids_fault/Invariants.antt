@@ -1,10 +1,10 @@
-use Prim.Native.Nat.{◌+◌, ◌*◌, ◌≤◌}
-use lib.ListN.{length}
+use mathlib.Core.Path.{◌≡◌}
+use mathlib.Core.List.{[]}
+use Rattle.std.specs.Slice.Iter.{chunks_exact_rest, chunks_exact_size}
+use Rattle.map_given.specs.Given.{tracks_given}
+use Rattle.map_given.specs.Faults.{ids_fault}
 use Rattle.map_given.proofs.Ids.{IdsLeft}
 use Rattle.map_given.proofs.ids_fault.Given as goal
 
-abbrev pub invariant-loop-left : goal.invariant-loop-left
-invariant-loop-left l = (l.at + 23 * l.left ≤ length l.ts) × IdsLeft l.ts l.worst l.used.flags l.at l.left
-
-abbrev pub decreases-loop-left : goal.decreases-loop-left
-decreases-loop-left l = l.left
+abbrev pub invariant-loop-track : goal.invariant-loop-track
+invariant-loop-track l = (chunks_exact_size l.track-iterator ≡ 23) × IdsLeft (ids_fault [] (tracks_given l.tracks)) l.worst l.used (chunks_exact_rest l.track-iterator)

@@ -1,14 +1,13 @@
 use native.Mathlib.Omega.{arith}
-use mathlib.Core.Path.{◌∙◌}
-use Rattle.map_given.proofs.Laws.{tracks_fault_turn, tracks_fault_out, graver_first}
+use mathlib.Core.Path.{◌∙◌, ap}
+use Rattle.map_given.specs.Faults.{slots_fault}
+use Rattle.map_given.proofs.Laws.{track_slots, tracks_fault_turn, tracks_fault_out}
 use Rattle.map_given.proofs.tracks_fault.Goals as goal
 
-pub loop-left-init : goal.loop-left-init
-loop-left-init c = (omega arith, graver_first _)
-
-pub loop-left-preserved : goal.loop-left-preserved
-loop-left-preserved c = let l = c.loop-left in let a = c.args in
-    (omega arith, tracks_fault_turn a.text.now a.ts.now l.left l.at _ l.worst _ _ c.loop-left-test.true l.invariant.1 c.own_fault-own.ensures c.slots_fault-inner.ensures ∙ rw (← c.graver_of.ensures, ← c.graver_of-worst.ensures))
+pub loop-track-preserved : goal.loop-track-preserved
+loop-track-preserved c = let i = c.loop-track.invariant in let s = c.in-Some.ensures.steps in
+    (s.0 ∙ i.0, rw (c.graver_of-worst.ensures, c.graver_of.ensures) (tracks_fault_turn c.args.text.now c.in-Some.track.now _ _ c.loop-track.worst _ _ (s.1.1 ∙ i.0) (i.1 ∙ rw s.1.0) c.own_fault.ensures (c.slots_fault-inner.ensures ∙ ap (slots_fault c.args.text.now) (track_slots c.in-Some.track.now 0x4C (s.1.1 ∙ i.0)))))
 
 pub returns : goal.returns
-returns c = let l = c.loop-left in tracks_fault_out _ _ l.left l.at _ l.worst c.loop-left-test.false l.invariant.1
+returns c = let i = c.loop-track.invariant in let s = c.in-None.ensures.steps in
+    tracks_fault_out c.args.text.now _ _ c.loop-track.worst (omega (arith, s.1.0, i.0)) i.1

@@ -6,6 +6,6 @@ pub returns-then-tag-eq79 : goal.returns-then-tag-eq79
 unfolding counts_as
 returns-then-tag-eq79 c = search tests
 
-pub returns : goal.returns
+pub returns-else-tag-eq79 : goal.returns-else-tag-eq79
 unfolding counts_as
-returns c = search tests
+returns-else-tag-eq79 c = search tests

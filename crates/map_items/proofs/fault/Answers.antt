@@ -3,22 +3,22 @@ use borrow.Author.Tests.{eq-eqb, ne_eqb}
 use Rattle.map_items.specs.Judge.{fault_of}
 use Rattle.map_items.proofs.fault.Goals as goal
 
-pub returns-then-is_text : goal.returns-then-is_text
+pub returns-in-Text : goal.returns-in-Text
 unfolding fault_of
-returns-then-is_text c = simp (c.in-Text.is, sym c.is_text.ensures ∙ c.if-is_text.true)
+returns-in-Text c = simp (c.in-Text.is, sym c.is_text.ensures ∙ c.if-not-is_text.true)
 
-pub returns-then-value-n : goal.returns-then-value-n
+pub returns-in-Sized : goal.returns-in-Sized
 unfolding fault_of
-returns-then-value-n c = simp (c.in-Sized.is, eq-eqb _ _ c.if-value-n.true)
+returns-in-Sized c = simp (c.in-Sized.is, ne_eqb _ _ c.if-value-n.true)
 
-pub returns-else-is_text : goal.returns-else-is_text
+pub returns-in_default : goal.returns-in_default
 unfolding fault_of
-returns-else-is_text c = simp (c.in-Text.is, sym c.is_text.ensures ∙ c.if-is_text.false)
+returns-in_default c = simp (c.in-Text.is, sym c.is_text.ensures ∙ c.if-not-is_text.false)
 
-pub returns-else-value-n : goal.returns-else-value-n
+pub returns-in_default-2 : goal.returns-in_default-2
 unfolding fault_of
-returns-else-value-n c = simp (c.in-Sized.is, ne_eqb _ _ c.if-value-n.false)
+returns-in_default-2 c = simp (c.in-Sized.is, eq-eqb _ _ c.if-value-n.false)
 
-pub returns-in-Unknown : goal.returns-in-Unknown
+pub returns-in_default-3 : goal.returns-in_default-3
 unfolding fault_of
-returns-in-Unknown c = simp c.in-Unknown.is
+returns-in_default-3 c = simp c.in_default.is

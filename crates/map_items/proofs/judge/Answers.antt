@@ -14,9 +14,9 @@ returns-then-left-lt2 c = c.refused.ensures ∙ on_short _ _ _ _ _ c.loop-at.inv
 pub returns-then-left-n : goal.returns-then-left-n
 returns-then-left-n c = c.refused-then-left-n.ensures ∙ on_over _ _ _ _ _ c.loop-at.invariant.2 c.if-left-lt2.false _ c.wide-n.ensures c.if-left-n.true
 
-pub returns-then-wrong-ne0 : goal.returns-then-wrong-ne0
-returns-then-wrong-ne0 c = c.refused-then-wrong-ne0.ensures
-    ∙ on_fault _ _ _ _ _ c.loop-at.invariant.2 c.if-left-lt2.false _ c.wide-n.ensures c.if-left-n.false _ (rw (c.asked_of-asked.ensures, add-sub_cancel_left) at c.fault-wrong.ensures) c.if-wrong-ne0.true
+pub returns-in-Some : goal.returns-in-Some
+returns-in-Some c = c.refused-in-Some.ensures
+    ∙ on_fault _ _ _ _ _ c.loop-at.invariant.2 c.if-left-lt2.false _ c.wide-n.ensures c.if-left-n.false _ (rw (c.asked_of-asked.ensures, add-sub_cancel_left) at c.fault.ensures) _ c.in-Some.is
 
 pub overflow_sub-k : goal.overflow_sub-k
 overflow_sub-k c = let k = known_range _ _ (sym (rw c.asked_of-asked.ensures at c.is_known.ensures) ∙ c.if-is_known.true) in let w = c.wide-k.ensures ∙ c.counts_as.ensures in omega arith
@@ -27,7 +27,7 @@ bounds-seen-k c = let k = known_range _ _ (sym (rw c.asked_of-asked.ensures at c
 pub returns-then-seen-k : goal.returns-then-seen-k
 returns-then-seen-k c = let k = known_range _ _ (sym (rw c.asked_of-asked.ensures at c.is_known.ensures) ∙ c.if-is_known.true) in let w = c.wide-k.ensures ∙ c.counts_as.ensures in
     c.refused-then-seen-k.ensures
-    ∙ on_twice _ _ _ _ _ c.loop-at.invariant.2 c.if-left-lt2.false _ c.wide-n.ensures c.if-left-n.false _ (rw (c.asked_of-asked.ensures, add-sub_cancel_left) at c.fault-wrong.ensures) c.if-wrong-ne0.false
+    ∙ on_twice _ _ _ _ _ c.loop-at.invariant.2 c.if-left-lt2.false _ c.wide-n.ensures c.if-left-n.false _ (rw (c.asked_of-asked.ensures, add-sub_cancel_left) at c.fault.ensures) c.in_default.is
     _ (rw c.asked_of-asked.ensures at c.is_known.ensures) c.if-is_known.true _ w (omega arith) (omega arith) c.if-seen-k.true
 
 pub bounds-seen-k-then-is_known : goal.bounds-seen-k-then-is_known
@@ -37,7 +37,7 @@ pub loop-at-preserved-else-seen-k : goal.loop-at-preserved-else-seen-k
 loop-at-preserved-else-seen-k c = let k = known_range _ _ (sym (rw c.asked_of-asked.ensures at c.is_known.ensures) ∙ c.if-is_known.true) in let w = c.wide-k.ensures ∙ c.counts_as.ensures in (
   omega arith,
   search rules,
-  on_next _ _ _ _ _ c.loop-at.invariant.2 c.if-left-lt2.false _ c.wide-n.ensures c.if-left-n.false _ (rw (c.asked_of-asked.ensures, add-sub_cancel_left) at c.fault-wrong.ensures) c.if-wrong-ne0.false
+  on_next _ _ _ _ _ c.loop-at.invariant.2 c.if-left-lt2.false _ c.wide-n.ensures c.if-left-n.false _ (rw (c.asked_of-asked.ensures, add-sub_cancel_left) at c.fault.ensures) c.in_default.is
       _ (rw c.asked_of-asked.ensures at c.is_known.ensures) c.if-is_known.true _ w (omega arith) (omega arith) c.loop-at.invariant.1 c.if-seen-k.false,
 )
 
@@ -45,7 +45,7 @@ pub loop-at-preserved : goal.loop-at-preserved
 loop-at-preserved c = (
   omega arith,
   c.loop-at.invariant.1,
-  on_unknown _ _ _ _ _ c.loop-at.invariant.2 c.if-left-lt2.false _ c.wide-n.ensures c.if-left-n.false _ (rw (c.asked_of-asked.ensures, add-sub_cancel_left) at c.fault-wrong.ensures) c.if-wrong-ne0.false
+  on_unknown _ _ _ _ _ c.loop-at.invariant.2 c.if-left-lt2.false _ c.wide-n.ensures c.if-left-n.false _ (rw (c.asked_of-asked.ensures, add-sub_cancel_left) at c.fault.ensures) c.in_default.is
       _ (rw c.asked_of-asked.ensures at c.is_known.ensures) c.if-is_known.false,
 )
 

@@ -1,4 +1,3 @@
-use Prim.Native.Nat.{◌-◌, ◌≤◌}
 use mathlib.Core.Path.{◌≡◌}
 use Rattle.map_records.specs.Fill.{records_at}
 use Rattle.map_records.proofs.Laws.{up_to}
@@ -6,7 +5,4 @@ use Rattle.map_records.proofs.fill.Given as goal
 
 -- so many records are written, in the place of the first that were lent
 abbrev pub invariant-loop-i : goal.invariant-loop-i
-invariant-loop-i l = (l.i ≤ l.n) × (l.recs ≡ up_to l.i (records_at l.s l.at) l.initial.recs)
-
-abbrev pub decreases-loop-i : goal.decreases-loop-i
-decreases-loop-i l = l.n - l.i
+invariant-loop-i l = l.recs ≡ up_to l.i (records_at l.s l.at) l.initial.recs

@@ -1,4 +1,5 @@
 use borrow.Author.Rules.{rules}
+use Rattle.std.proofs.lemmas.Result.{err_from_is_err_and}
 use native.Mathlib.Omega.{arith}
 use mathlib.Core.Path.{sym, ◌∙◌}
 use native.Mathlib.Nat.{add-sub_cancel_left}
@@ -25,15 +26,15 @@ returns-then-has c = c.refused-then-has.ensures
     ∙ on_twice _ _ _ _ c.loop-at.invariant.1 c.if-left-lt4.false c.if-type_byte-lt128.false c.if-id-lt192.false _ c.be_at-n.ensures c.if-left-n.false (c.type_inv.s _).fits
     (sym c.has.ensures ∙ c.if-has.true)
 
-pub returns-in-Refused : goal.returns-in-Refused
-returns-in-Refused c = on_refused _ _ _ _ c.loop-at.invariant.1 c.if-left-lt4.false c.if-type_byte-lt128.false c.if-id-lt192.false _ c.be_at-n.ensures c.if-left-n.false (c.type_inv.s _).fits
-    (sym c.has.ensures ∙ c.if-has.false) _ (rw add-sub_cancel_left at (sym c.judge_track.ensures) ∙ c.in-Refused.is)
+pub returns-in_err-judge_track : goal.returns-in_err-judge_track
+returns-in_err-judge_track c = let p = err_from_is_err_and c.from_residual.result c.from_residual.ensures.1 in rw (p.1, p.2) (on_refused _ _ _ _ c.loop-at.invariant.1 c.if-left-lt4.false c.if-type_byte-lt128.false c.if-id-lt192.false _ c.be_at-n.ensures c.if-left-n.false (c.type_inv.s _).fits
+    (sym c.has.ensures ∙ c.if-has.false) _ (rw add-sub_cancel_left at (sym c.judge_track.ensures) ∙ c.in_err-judge_track.was))
 
 pub loop-at-preserved : goal.loop-at-preserved
 loop-at-preserved c = (
   omega arith,
   on_next _ _ _ _ c.loop-at.invariant.1 c.if-left-lt4.false c.if-type_byte-lt128.false c.if-id-lt192.false _ c.be_at-n.ensures c.if-left-n.false (c.type_inv.s _).fits
-      (sym c.has.ensures ∙ c.if-has.false) _ (rw add-sub_cancel_left at (sym c.judge_track.ensures) ∙ c.in-Accepted.is) c.with-seen.ensures,
+      (sym c.has.ensures ∙ c.if-has.false) _ (rw add-sub_cancel_left at (sym c.judge_track.ensures) ∙ c.in_ok-judge_track.was) c.with-seen.ensures,
 )
 
 pub returns : goal.returns

@@ -1,11 +1,10 @@
-use mathlib.Core.Path.{◌∙◌}
 use Rattle.map_tracks.specs.Inside.{key_of}
 use Rattle.map_tracks.proofs.key.Goals as goal
 
 pub returns-then-named : goal.returns-then-named
 unfolding key_of
-returns-then-named c = rw c.if-named.true (c.wide.ensures ∙ c.bare.ensures)
+returns-then-named c = rw c.if-named.true (c.bare.ensures)
 
-pub returns : goal.returns
+pub returns-else-named : goal.returns-else-named
 unfolding key_of
-returns c = rw c.if-named.false
+returns-else-named c = rw c.if-named.false

@@ -1,3 +1,4 @@
+use Prim.Native.Nat.{◌+◌, ◌*◌, ◌-◌, ◌/◌}
 use lib.ListN.{length}
 use lib.Seq.{sets}
 use Rattle.map_given.specs.Given.{slots}
@@ -6,8 +7,5 @@ use Rattle.map_writer.specs.Write.{items_of}
 use Rattle.map_writer.proofs.Puts.{SlotsLeft}
 use Rattle.map_writer.proofs.put_slots.Given as goal
 
-abbrev pub invariant-loop-left : goal.invariant-loop-left
-invariant-loop-left l = SlotsLeft (sets l.initial.out l.pos (items_bytes (items_of l.text (slots l.n l.ws l.at l.tag)))) l.text l.ws (length l.initial.out) l.out l.to l.place l.next l.left
-
-abbrev pub decreases-loop-left : goal.decreases-loop-left
-decreases-loop-left l = l.left
+abbrev pub invariant-loop-i : goal.invariant-loop-i
+invariant-loop-i l = SlotsLeft (sets l.initial.out l.pos (items_bytes (items_of l.text (slots (length l.words / 3) l.words 0 l.tag)))) l.text l.words (length l.initial.out) l.out l.to (3 * l.i) (l.tag + l.i) (length l.words / 3 - l.i)

@@ -1,12 +1,9 @@
 use mathlib.Core.Path.{◌≡◌}
-use Prim.Native.Nat.{◌+◌, ◌*◌, ◌≤◌}
-use lib.ListN.{length}
+use Prim.Native.Nat.{◌+◌}
+use Rattle.std.specs.Slice.Iter.{chunks_exact_rest, chunks_exact_size}
+use Rattle.map_given.specs.Given.{tracks_given}
 use Rattle.map_writer.specs.Inside.{tracks_size}
-use Rattle.map_given.specs.Given.{tracks_from, tracks_given}
 use Rattle.map_writer.proofs.tracks_size.Given as goal
 
-abbrev pub invariant-loop-left : goal.invariant-loop-left
-invariant-loop-left l = (l.at + 23 * l.left ≤ length l.ts) × (tracks_size (tracks_given l.ts) ≡ l.total + tracks_size (tracks_from l.left l.ts l.at))
-
-abbrev pub decreases-loop-left : goal.decreases-loop-left
-decreases-loop-left l = l.left
+abbrev pub invariant-loop-track : goal.invariant-loop-track
+invariant-loop-track l = (chunks_exact_size l.track-iterator ≡ 23) × (tracks_size (tracks_given l.tracks) ≡ l.total + tracks_size (tracks_given (chunks_exact_rest l.track-iterator)))

@@ -7,4 +7,4 @@ abbrev pub decreases-ident : goal.decreases-ident
 decreases-ident l = length l.s.now - l.from
 
 abbrev pub decreases-value : goal.decreases-value
-decreases-value l = length l.s.now - l.at
+decreases-value l = length l.s.now - l.label.value

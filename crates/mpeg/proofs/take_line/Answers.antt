@@ -1,25 +1,19 @@
-use native.Mathlib.Omega.{arith}
 use mathlib.Core.Path.{sym, ◌∙◌, refl}
-use borrow.Author.Tests.{lt-ltb, le-ltb, eq-eqb, ne_eqb}
 use Rattle.mpeg.specs.Read.{taken}
-use Rattle.mpeg_parameter.proofs.Laws.{amount_most}
 use Rattle.mpeg.proofs.take_line.Goals as goal
 
-pub returns-then-k-ge14 : goal.returns-then-k-ge14
+pub returns-in_default : goal.returns-in_default
 unfolding taken
-returns-then-k-ge14 c = simp (le-ltb _ _ c.if-k-ge14.true) (refl, refl)
+returns-in_default c = rw c.in_default.is (refl, refl)
 
-pub overflow_add-slots : goal.overflow_add-slots
-overflow_add-slots c = let m = amount_most _ _ _ (sym c.amount.ensures ∙ c.in-Of.is) in omega arith
-
-pub returns-then-before-eq0 : goal.returns-then-before-eq0
+pub returns-in_default-amount : goal.returns-in_default-amount
 unfolding taken
-returns-then-before-eq0 c = simp (lt-ltb _ _ c.if-k-ge14.false, sym c.amount.ensures ∙ c.in-Of.is, eq-eqb _ _ c.if-before-eq0.true) (refl, refl)
+returns-in_default-amount c = rw c.in-Some.is (simp (sym c.amount.ensures ∙ c.in_default-amount.is, c.refuse.ensures) (refl, refl))
 
-pub returns-in-Malformed : goal.returns-in-Malformed
+pub returns-then-is_some : goal.returns-then-is_some
 unfolding taken
-returns-in-Malformed c = simp (lt-ltb _ _ c.if-k-ge14.false, sym c.amount.ensures ∙ c.in-Malformed.is, c.refuse.ensures) (refl, refl)
+returns-then-is_some c = rw c.in-Some.is (simp (sym c.amount.ensures ∙ c.in-Some-amount.is, sym c.is_some.ensures ∙ c.if-is_some.true, c.refuse-then-is_some.ensures) (refl, refl))
 
-pub returns-else-before-eq0 : goal.returns-else-before-eq0
+pub returns : goal.returns
 unfolding taken
-returns-else-before-eq0 c = simp (lt-ltb _ _ c.if-k-ge14.false, sym c.amount.ensures ∙ c.in-Of.is, ne_eqb _ _ c.if-before-eq0.false, c.refuse-in-Of.ensures) (refl, refl)
+returns c = rw c.in-Some.is (simp (sym c.amount.ensures ∙ c.in-Some-amount.is, sym c.is_some.ensures ∙ c.if-is_some.false) (refl, refl))

@@ -1,40 +1,30 @@
 use native.Mathlib.Omega.{arith}
 use mathlib.Core.Path.{sym, ◌∙◌}
-use borrow.Author.Tests.{lt-ltb, le-ltb, lt-leb, le-leb}
-use lib.ListN.{length}
-use Rattle.mpeg_decimal.specs.Decimal.{numeral_of}
-use Rattle.mpeg_decimal.proofs.Laws.{more, room, numeral_start, digits_turn, digits_end}
+use mathlib.Core.Logic.{inl, inr}
+use borrow.Author.Tests.{eqb-true, eqb-false}
+use Rattle.mpeg_decimal.proofs.Laws.{more, digit_is, numeral_start, numeral_none, digits_turn, digits_end}
+use Rattle.mpeg_decimal.proofs.numeral.Goals.{then-is_empty-via-then-is_empty, then-is_empty-via-else-is_empty+then-most-v}
 use Rattle.mpeg_decimal.proofs.numeral.Goals as goal
 
-pub returns-then-v-eq0 : goal.returns-then-v-eq0
-unfolding numeral_of
-returns-then-v-eq0 c = simp (le-ltb 0 (length c.args.v.now) (omega arith))
+pub returns-then-is_empty : goal.returns-then-is_empty
+returns-then-is_empty c =
+    numeral_none _ _
+    (elim c.then-is_empty.branch [
+      | then-is_empty-via-then-is_empty w ↦ inl (let e = eqb-true _ _ (sym w.if-is_empty.ensures) in omega arith)
+      | then-is_empty-via-else-is_empty+then-most-v w ↦ inr w.if-most-v.true
+    ])
 
-pub returns-then-most-v : goal.returns-then-most-v
-unfolding numeral_of
-returns-then-most-v c = simp (lt-ltb 0 (length c.args.v.now) (omega arith), lt-leb _ _ c.if-most-v.true)
+pub loop-b-init : goal.loop-b-init
+loop-b-init c = (omega arith, numeral_start _ _ (let e = eqb-false _ _ (sym c.if-is_empty.ensures) in omega arith) c.if-most-v.false)
 
-pub loop-i-init : goal.loop-i-init
-loop-i-init c = (omega arith, omega arith, numeral_start _ _ (omega arith) c.if-most-v.false)
+pub returns-then-not-is_ascii_digit : goal.returns-then-not-is_ascii_digit
+returns-then-not-is_ascii_digit c = sym (c.loop-b.invariant.1 ∙ digits_turn _ _ _ c.loop-b-test.true ∙ simp (← digit_is, sym c.is_ascii_digit.ensures.value ∙ c.if-not-is_ascii_digit.true))
 
-pub returns-then-b-lt48 : goal.returns-then-b-lt48
-returns-then-b-lt48 c = sym (c.loop-i.invariant.2 ∙ digits_turn _ _ _ c.loop-i-test.true ∙ simp (lt-leb _ _ c.if-b-lt48.true))
-
-pub returns-then-b-gt57 : goal.returns-then-b-gt57
-returns-then-b-gt57 c = sym (c.loop-i.invariant.2 ∙ digits_turn _ _ _ c.loop-i-test.true ∙ simp (le-leb _ _ c.if-b-lt48.false, lt-leb _ _ c.if-b-gt57.true))
-
-pub overflow_mul-n : goal.overflow_mul-n
-overflow_mul-n c = let l = c.loop-i in let r = room l.i (omega arith) l.invariant.1 in omega arith
-
-pub overflow_add-n : goal.overflow_add-n
-overflow_add-n c = let l = c.loop-i in let r = room l.i (omega arith) l.invariant.1 in omega arith
-
-pub loop-i-preserved : goal.loop-i-preserved
-loop-i-preserved c = let l = c.loop-i in (
-  omega arith,
-  more l.i l.invariant.1 (omega arith),
-  l.invariant.2 ∙ digits_turn _ _ _ c.loop-i-test.true ∙ simp (le-leb _ _ c.if-b-lt48.false, le-leb _ _ c.if-b-gt57.false),
+pub loop-b-preserved : goal.loop-b-preserved
+loop-b-preserved c = let l = c.loop-b in (
+  more l.b-index l.invariant.0 (let d = c.if-not-is_ascii_digit.ensures.cases in omega arith),
+  l.invariant.1 ∙ digits_turn _ _ _ c.loop-b-test.true ∙ simp (← digit_is, sym c.is_ascii_digit.ensures.value ∙ c.if-not-is_ascii_digit.false),
 )
 
 pub returns : goal.returns
-returns c = sym (c.loop-i.invariant.2 ∙ digits_end _ _ _ c.loop-i-test.false)
+returns c = sym (c.loop-b.invariant.1 ∙ digits_end _ _ _ c.loop-b-test.false)

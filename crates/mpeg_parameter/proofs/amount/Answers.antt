@@ -1,11 +1,10 @@
-use mathlib.Core.Path.{sym}
 use Rattle.mpeg_parameter.specs.Parameters.{amount_of}
 use Rattle.mpeg_parameter.proofs.amount.Goals as goal
 
-pub returns-then-as_rate : goal.returns-then-as_rate
+pub returns-then-row_at : goal.returns-then-row_at
 unfolding amount_of
-returns-then-as_rate c = simp (sym c.row_at-r.ensures, c.if-as_rate.true, c.rate.ensures)
+returns-then-row_at c = simp (rw c.row_at.ensures at c.if-row_at.true, c.rate.ensures)
 
 pub returns : goal.returns
 unfolding amount_of
-returns c = simp (sym c.row_at-r.ensures, c.if-as_rate.false, c.whole.ensures)
+returns c = simp (rw c.row_at.ensures at c.if-row_at.false, c.whole.ensures)

@@ -16,26 +16,26 @@ million : Ieee.of_int binary64 (pos 1000000) ≡ Ieee.of_bits binary64 0x412E848
 unfolding Ieee.of_int Ieee.of_bits Ieee.round Ieee.size Ieee.units Ieee.odd
 million = refl
 
-pub int_to_float-x : goal.int_to_float-x
+pub int_to_float-result : goal.int_to_float-result
 unfolding Ieee.in_float
-int_to_float-x c = let a = c.args in
-    let n : c.number_of-n.result ≡ number_of (row_at a.k) a.slot = c.number_of-n.ensures in
+int_to_float-result c = let a = c.args in
+    let n : c.number_of-n.result ≡ number_of (row_at a.k) a.slot = rw c.row_at-row.ensures at c.number_of-n.ensures in
     let m = number_most (row_at a.k) a.slot in
-    let e = rate_exact a.k (rw c.row_at-r.ensures at c.if-rate.true) in
+    let e = rate_exact a.k (rw c.row_at-row.ensures at c.if-row.true) in
     let h : c.number_of-n.result ≤ 2 ^ 53 = omega arith in
     rw (le-leb _ _ h) tt
 
-pub returns-then-rate : goal.returns-then-rate
+pub returns-then-row : goal.returns-then-row
 unfolding value_of_row millionths
-returns-then-rate c = simp (rw c.row_at-r.ensures at c.if-rate.true, sym c.number_of-n.ensures, million)
+returns-then-row c = simp (← c.row_at-row.ensures, c.if-row.true, sym c.number_of-n.ensures, million)
 
 pub overflow_cast-result : goal.overflow_cast-result
 overflow_cast-result c = let a = c.args in
-    let n : c.number_of-n.result ≡ number_of (row_at a.k) a.slot = c.number_of-n.ensures in
+    let n : c.number_of-n.result ≡ number_of (row_at a.k) a.slot = rw c.row_at-row.ensures at c.number_of-n.ensures in
     let m = number_most (row_at a.k) a.slot in
-    let e = whole_fits a.k (rw c.row_at-r.ensures at c.if-rate.false) in
+    let e = whole_fits a.k (rw c.row_at-row.ensures at c.if-row.false) in
     omega arith
 
 pub returns : goal.returns
 unfolding value_of_row
-returns c = simp (rw c.row_at-r.ensures at c.if-rate.false, sym c.number_of-n.ensures)
+returns c = simp (← c.row_at-row.ensures, c.if-row.false, sym c.number_of-n.ensures)

@@ -1,15 +1,19 @@
-use mathlib.Core.Path.{sym, refl, ◌∙◌}
-use Rattle.mpeg_scan.proofs.Laws.{run_out, run_stop, run_go}
+use Rattle.std.proofs.Common.{rules, tests, Bor, ℕ, drop}
+use Rattle.std.proofs.lemmas.Fn.{fronts}
+use Rattle.std.proofs.lemmas.Iterator.{YieldsList, YieldsList-from_slice}
+use Rattle.std.proofs.lemmas.Iterator.Adapters.{YieldsList-from_skip}
+use Rattle.std.proofs.lemmas.Iterator.Consumers.{count_from_yields_List}
+use Rattle.std.proofs.lemmas.Iterator.Search.{YieldsList-from_take_while}
+use Rattle.std.specs.Iterator.Adapters.{skip_steps, take_while_source}
+use Rattle.mpeg_scan.specs.Scan.{alnum}
+use Rattle.mpeg_scan.proofs.Laws.{run_end_is}
 use Rattle.mpeg_scan.proofs.alnum_end.Goals as goal
 
-pub loop-i-init : goal.loop-i-init
-loop-i-init c = refl
-
-pub loop-i-preserved : goal.loop-i-preserved
-loop-i-preserved c = c.loop-i.invariant ∙ run_go _ _ _ 0 c.loop-i-test.true (sym c.is_alnum.ensures ∙ c.if-is_alnum.true)
-
-pub returns-else-is_alnum : goal.returns-else-is_alnum
-returns-else-is_alnum c = run_stop _ _ _ 0 c.loop-i-test.true (sym c.is_alnum.ensures ∙ c.if-is_alnum.false) ∙ sym c.loop-i.invariant
-
 pub returns : goal.returns
-returns c = run_out _ _ _ c.loop-i-test.false ∙ sym c.loop-i.invariant
+returns c =
+    let a = c.args in
+    let rest : YieldsList (skip_steps fronts) (λ (b : Bor ℕ). b.now) (take_while_source c.take_while.result) (drop a.at a.s.now) =
+    YieldsList-from_skip a.at (YieldsList-from_slice a.s.now (search rules)) (search rules) in
+    run_end_is _ a.s.now a.at _
+    (count_from_yields_List c.take_while.result _ c.count.ensures.ran
+    (YieldsList-from_take_while _ alnum rest c.take_while.ensures.closure c.take_while.ensures.done (λ x b q k. search (rules, tests))))

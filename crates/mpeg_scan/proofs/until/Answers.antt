@@ -1,19 +1,18 @@
-use mathlib.Core.Path.{sym, refl, ◌∙◌}
-use borrow.Author.Tests.{eq-eqb, ne_eqb}
+use Rattle.std.proofs.Common.{rules, tests}
+use Rattle.std.proofs.lemmas.Iterator.{YieldsList-from_slice}
+use Rattle.std.proofs.lemmas.Iterator.Adapters.{YieldsList-from_skip}
+use Rattle.std.proofs.lemmas.Iterator.Consumers.{count_from_yields_List}
+use Rattle.std.proofs.lemmas.Iterator.Search.{YieldsList-from_take_while}
 use Rattle.mpeg_scan.specs.Scan.{other}
-use Rattle.mpeg_scan.proofs.Laws.{run_out, run_stop, run_go}
+use Rattle.mpeg_scan.proofs.Laws.{run_end_is}
 use Rattle.mpeg_scan.proofs.until.Goals as goal
 
-pub loop-i-init : goal.loop-i-init
-loop-i-init c = refl
-
-pub returns-then-b-stop : goal.returns-then-b-stop
-unfolding other
-returns-then-b-stop c = run_stop _ _ _ 0 c.loop-i-test.true (simp (eq-eqb _ _ c.if-b-stop.true)) ∙ sym c.loop-i.invariant
-
-pub loop-i-preserved : goal.loop-i-preserved
-unfolding other
-loop-i-preserved c = c.loop-i.invariant ∙ run_go _ _ _ 0 c.loop-i-test.true (simp (ne_eqb _ _ c.if-b-stop.false))
-
 pub returns : goal.returns
-returns c = run_out _ _ _ c.loop-i-test.false ∙ sym c.loop-i.invariant
+unfolding other
+returns c =
+    let a = c.args in
+    run_end_is _ a.s.now a.at _
+    (count_from_yields_List c.take_while.result _ c.count.ensures.ran
+    (YieldsList-from_take_while _ (other a.stop)
+    (YieldsList-from_skip a.at (YieldsList-from_slice a.s.now (search rules)) (search rules))
+    c.take_while.ensures.closure c.take_while.ensures.done (λ x b q k. search (rules, tests))))

@@ -3,4 +3,4 @@ use Rattle.number.proofs.Laws.{le-eight}
 use Rattle.number.proofs.le8.Goals as goal
 
 pub returns : goal.returns
-returns c = c.joined_eight.ensures ∙ le-eight _ _
+returns c = c.from_le_bytes.ensures ∙ le-eight _ _

@@ -1,12 +1,8 @@
-use Prim.Native.Nat.{◌≤◌}
+use Prim.Native.Nat.{◌-◌}
 use mathlib.Core.Path.{◌≡◌}
-use lib.ListN.{length}
 use lib.Seq.{sets}
 use Rattle.number.specs.Number.{be_bytes}
 use Rattle.number.proofs.put_be.Given as goal
 
 abbrev pub invariant-loop-i : goal.invariant-loop-i
-invariant-loop-i l = (l.i ≤ l.n) × (length l.out ≡ length l.initial.out) × (sets l.initial.out l.at (be_bytes l.n l.v) ≡ sets l.out l.at (be_bytes l.i l.rest))
-
-abbrev pub decreases-loop-i : goal.decreases-loop-i
-decreases-loop-i l = l.i
+invariant-loop-i l = sets l.initial.out l.at (be_bytes l.n l.v) ≡ sets l.out l.at (be_bytes (l.i - l.at) l.rest)

@@ -1,14 +1,15 @@
+use Rattle.plate.proofs.Tests.{tests}
 use Rattle.order.specs.Order.{misplaced}
 use Rattle.order.proofs.is_misplaced.Goals as goal
 
 pub returns-then-eos_due : goal.returns-then-eos_due
 unfolding misplaced
-returns-then-eos_due c = rw c.if-eos_due.true
+returns-then-eos_due c = search tests
 
 pub returns-then-flt : goal.returns-then-flt
 unfolding misplaced
-returns-then-flt c = rw (c.if-eos_due.false, c.if-flt.true)
+returns-then-flt c = search tests
 
-pub returns : goal.returns
+pub returns-else-flt : goal.returns-else-flt
 unfolding misplaced
-returns c = rw (c.if-eos_due.false, c.if-flt.false)
+returns-else-flt c = search tests

@@ -1,11 +1,11 @@
-use borrow.Author.Tests.{eq-eqb, ne_eqb}
+use Rattle.plate.proofs.Tests.{tests}
 use Rattle.order.specs.Order.{overdue}
 use Rattle.order.proofs.is_overdue.Goals as goal
 
-pub returns-then-packet_type-eq-MAP : goal.returns-then-packet_type-eq-MAP
+pub returns-then-packet_type-ne-MAP : goal.returns-then-packet_type-ne-MAP
 unfolding overdue
-returns-then-packet_type-eq-MAP c = rw (eq-eqb _ _ c.if-packet_type-eq-MAP.true)
+returns-then-packet_type-ne-MAP c = search tests
 
-pub returns : goal.returns
+pub returns-else-packet_type-ne-MAP : goal.returns-else-packet_type-ne-MAP
 unfolding overdue
-returns c = rw (ne_eqb _ _ c.if-packet_type-eq-MAP.false)
+returns-else-packet_type-ne-MAP c = search tests

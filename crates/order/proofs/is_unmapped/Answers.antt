@@ -1,15 +1,15 @@
-use borrow.Author.Tests.{eq-eqb, ne_eqb}
+use Rattle.plate.proofs.Tests.{tests}
 use Rattle.order.specs.Order.{unmapped}
 use Rattle.order.proofs.is_unmapped.Goals as goal
 
 pub returns-then-media_type-listed : goal.returns-then-media_type-listed
 unfolding unmapped
-returns-then-media_type-listed c = rw (eq-eqb _ _ c.if-packet_type-eq-MEDIA.true, eq-eqb _ _ c.if-media_type-listed.true)
+returns-then-media_type-listed c = search (tests, c.is_known.ensures)
 
-pub returns-then-packet_type-eq-MEDIA : goal.returns-then-packet_type-eq-MEDIA
+pub returns-else-media_type-listed : goal.returns-else-media_type-listed
 unfolding unmapped
-returns-then-packet_type-eq-MEDIA c = rw (eq-eqb _ _ c.if-packet_type-eq-MEDIA.true, ne_eqb _ _ c.if-media_type-listed.false) c.is_known.ensures
+returns-else-media_type-listed c = search tests
 
-pub returns : goal.returns
+pub returns-else-packet_type-eq-MEDIA : goal.returns-else-packet_type-eq-MEDIA
 unfolding unmapped
-returns c = rw (ne_eqb _ _ c.if-packet_type-eq-MEDIA.false)
+returns-else-packet_type-eq-MEDIA c = search tests

@@ -1,9 +1,9 @@
-use mathlib.Core.Path.{refl, sym, ◌∙◌}
+use mathlib.Core.Path.{sym, ◌∙◌}
 use Rattle.packet.proofs.Laws.{leads, leads_not}
 use Rattle.packet.proofs.is_leader.Goals as goal
 
-pub returns-then-le4-ne0 : goal.returns-then-le4-ne0
-returns-then-le4-ne0 c = leads_not _ _ (λ q. c.if-le4-ne0.true (c.le4.ensures ∙ q))
+pub returns-then-be4-eq0 : goal.returns-then-be4-eq0
+returns-then-be4-eq0 c = leads _ _ (sym c.be4.ensures ∙ c.if-be4-eq0.true)
 
-pub returns : goal.returns
-returns c = leads _ _ _ refl (sym c.le4.ensures ∙ c.if-le4-ne0.false)
+pub returns-else-be4-eq0 : goal.returns-else-be4-eq0
+returns-else-be4-eq0 c = rw c.be4.ensures (leads_not _ _ (λ q. c.if-be4-eq0.false (c.be4.ensures ∙ q)))

@@ -5,12 +5,12 @@ use Rattle.piece.specs.Piece.{content_of}
 use Rattle.piece.proofs.map_content.Goals as goal
 
 pub refused_at-requires : goal.refused_at-requires
-refused_at-requires c = let a = c.args in let w = place_within a.p.now _ c.requires.0 (sym c.verdict_of.ensures ∙ c.in-Refused.is) in omega arith
+refused_at-requires c = let a = c.args in let w = place_within a.p.now _ c.requires.0 (sym c.verdict_of.ensures ∙ c.in-Err.is) in omega arith
 
-pub returns-in-Refused : goal.returns-in-Refused
+pub returns-in-Err : goal.returns-in-Err
 unfolding content_of
-returns-in-Refused c = rw (sym c.verdict_of.ensures ∙ c.in-Refused.is) c.refused_at.ensures
+returns-in-Err c = rw (sym c.verdict_of.ensures ∙ c.in-Err.is) c.refused_at.ensures
 
-pub returns-in-Accepted : goal.returns-in-Accepted
+pub returns-in-Ok : goal.returns-in-Ok
 unfolding content_of
-returns-in-Accepted c = rw (sym c.verdict_of.ensures ∙ c.in-Accepted.is) c.plain.ensures
+returns-in-Ok c = rw (sym c.verdict_of.ensures ∙ c.in-Ok.is, c.plain.ensures)

@@ -1,10 +1,10 @@
 use Rattle.piece.specs.Piece.{opens}
 use Rattle.piece.proofs.may_open.Goals as goal
 
-pub returns-then-first : goal.returns-then-first
+pub returns-then-not-first : goal.returns-then-not-first
 unfolding opens
-returns-then-first c = rw c.if-first.true
+returns-then-not-first c = rw c.if-not-first.true
 
-pub returns : goal.returns
+pub returns-else-not-first : goal.returns-else-not-first
 unfolding opens
-returns c = rw c.if-first.false
+returns-else-not-first c = rw c.if-not-first.false

@@ -5,12 +5,12 @@ use Rattle.piece.proofs.Laws.{media_place}
 use Rattle.piece.proofs.media_content.Goals as goal
 
 pub refused_at-requires : goal.refused_at-requires
-refused_at-requires c = let a = c.args in let w = media_place a.p.now _ (sym c.preamble.ensures ∙ c.in-Refused.is) in omega arith
+refused_at-requires c = let a = c.args in let w = media_place a.p.now _ (sym c.preamble.ensures ∙ c.in-Err.is) in omega arith
 
-pub returns-in-Refused : goal.returns-in-Refused
+pub returns-in-Err : goal.returns-in-Err
 unfolding content_of
-returns-in-Refused c = rw (sym c.preamble.ensures ∙ c.in-Refused.is) c.refused_at.ensures
+returns-in-Err c = rw (sym c.preamble.ensures ∙ c.in-Err.is) c.refused_at.ensures
 
-pub returns-in-Preamble : goal.returns-in-Preamble
+pub returns-in-Ok : goal.returns-in-Ok
 unfolding content_of
-returns-in-Preamble c = rw (sym c.preamble.ensures ∙ c.in-Preamble.is)
+returns-in-Ok c = rw (sym c.preamble.ensures ∙ c.in-Ok.is)

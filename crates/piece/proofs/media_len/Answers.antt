@@ -3,14 +3,14 @@ use borrow.Author.Tests.{eq-eqb, ne_eqb}
 use Rattle.piece.specs.Inside.{media_len}
 use Rattle.piece.proofs.media_len.Goals as goal
 
-pub returns-then-packet_type : goal.returns-then-packet_type
+pub returns-in-Ok : goal.returns-in-Ok
 unfolding media_len
-returns-then-packet_type c = simp (sym c.header.ensures ∙ c.in-Whole.is, eq-eqb _ _ c.if-packet_type.true)
+returns-in-Ok c = simp (sym c.header.ensures ∙ c.in-Ok.is, eq-eqb _ _ c.if-w.true)
 
-pub returns-in-Refused : goal.returns-in-Refused
+pub returns-in_default : goal.returns-in_default
 unfolding media_len
-returns-in-Refused c = simp (sym c.header.ensures ∙ c.in-Refused.is)
+returns-in_default c = simp (sym c.header.ensures ∙ c.in-Ok.is, ne_eqb _ _ c.if-w.false)
 
-pub returns-else-packet_type : goal.returns-else-packet_type
+pub returns-in_default-2 : goal.returns-in_default-2
 unfolding media_len
-returns-else-packet_type c = simp (sym c.header.ensures ∙ c.in-Whole.is, ne_eqb _ _ c.if-packet_type.false)
+returns-in_default-2 c = simp (sym c.header.ensures ∙ c.in_default.is)

@@ -23,4 +23,4 @@ returns-then-packet_type c = rw (eq-eqb _ _ c.if-packet_type.true, c.be4-len.ens
 
 pub returns : goal.returns
 unfolding seen_at
-returns c = rw (ne_eqb _ _ c.if-packet_type.false, c.be4-len.ensures)
+returns c = rw (ne_eqb _ _ c.if-packet_type.false, c.plain.ensures, c.be4-len.ensures)

@@ -1,21 +1,36 @@
-use mathlib.Core.Path.{sym, ◌∙◌}
-use borrow.Author.Tests.{eq-eqb, ne_eqb}
-use Rattle.segment.specs.Segment.{rates_of}
+use Rattle.plate.proofs.Tests.{tests}
 use Rattle.map_items.specs.Judge.{has}
+use Rattle.segment.specs.Segment.{rates_of}
 use Rattle.segment.proofs.is_rate.Goals as goal
 
-pub returns-then-t-eq2 : goal.returns-then-t-eq2
-unfolding rates_of
-returns-then-t-eq2 c = simp (eq-eqb _ _ c.if-t-eq2.true) c.is_in.ensures
-
-pub returns-then-t-eq8 : goal.returns-then-t-eq8
-unfolding rates_of
-returns-then-t-eq8 c = simp (ne_eqb _ _ c.if-t-eq2.false, eq-eqb _ _ c.if-t-eq8.true) c.is_in-then-t-eq8.ensures
-
-pub returns-then-is_type : goal.returns-then-is_type
-unfolding rates_of
-returns-then-is_type c = simp (ne_eqb _ _ c.if-t-eq2.false, ne_eqb _ _ c.if-t-eq8.false, sym c.is_type.ensures ∙ c.if-is_type.true) c.is_in-then-is_type.ensures
-
-pub returns : goal.returns
+pub returns-in-2 : goal.returns-in-2
 unfolding rates_of has
-returns c = simp (ne_eqb _ _ c.if-t-eq2.false, ne_eqb _ _ c.if-t-eq8.false, sym c.is_type.ensures ∙ c.if-is_type.false)
+returns-in-2 c = search tests
+
+pub returns-in-392822 : goal.returns-in-392822
+unfolding rates_of has
+returns-in-392822 c = search tests
+
+pub returns-in_default-matches : goal.returns-in_default-matches
+unfolding rates_of has
+returns-in_default-matches c = search tests
+
+pub returns-in_default-matches-2 : goal.returns-in_default-matches-2
+unfolding rates_of has
+returns-in_default-matches-2 c = search tests
+
+pub returns-in_default-matches-2-2 : goal.returns-in_default-matches-2-2
+unfolding rates_of has
+returns-in_default-matches-2-2 c = search tests
+
+pub returns-in-60 : goal.returns-in-60
+unfolding rates_of has
+returns-in-60 c = search tests
+
+pub returns-in-60-2 : goal.returns-in-60-2
+unfolding rates_of has
+returns-in-60-2 c = search tests
+
+pub returns-else-is_type : goal.returns-else-is_type
+unfolding rates_of has
+returns-else-is_type c = search tests

@@ -1,11 +1,15 @@
-use borrow.Author.Tests.{le-leb, lt-leb}
+use Rattle.plate.proofs.Tests.{tests}
 use Rattle.segment.specs.Segment.{is_type}
 use Rattle.segment.proofs.is_type.Goals as goal
 
-pub returns-then-t-lt1 : goal.returns-then-t-lt1
+pub returns-in-1-to-11 : goal.returns-in-1-to-11
 unfolding is_type
-returns-then-t-lt1 c = simp (lt-leb _ _ c.if-t-lt1.true)
+returns-in-1-to-11 c = search tests
 
-pub returns : goal.returns
+pub returns-in_default : goal.returns-in_default
 unfolding is_type
-returns c = simp (le-leb _ _ c.if-t-lt1.false)
+returns-in_default c = search tests
+
+pub returns-in_default-2 : goal.returns-in_default-2
+unfolding is_type
+returns-in_default-2 c = search tests

@@ -1,11 +1,12 @@
-use mathlib.Core.Path.{sym, ◌∙◌}
+use mathlib.Core.Path.{sym}
+use Rattle.std.proofs.lemmas.Result.{err_from_is_err_and}
 use Rattle.source_name.specs.SourceName.{name_at}
 use Rattle.source_name.proofs.name_place.Goals as goal
 
-pub returns-in-Refused : goal.returns-in-Refused
+pub returns-in_err-segment_at : goal.returns-in_err-segment_at
 unfolding name_at
-returns-in-Refused c = simp (sym c.segment_at.ensures ∙ c.in-Refused.is)
+returns-in_err-segment_at c = let p = err_from_is_err_and c.from_residual.result c.from_residual.ensures.1 in rw (p.1, p.2) (simp (sym c.in_err-segment_at.ensures))
 
-pub returns-in-Says : goal.returns-in-Says
+pub returns : goal.returns
 unfolding name_at
-returns-in-Says c = simp (sym c.segment_at.ensures ∙ c.in-Says.is) c.of_part.ensures
+returns c = simp (sym c.in_ok-segment_at.ensures)

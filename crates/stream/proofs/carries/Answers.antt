@@ -1,4 +1,3 @@
-use native.Mathlib.Omega.{arith}
 use borrow.Author.Tests.{eq-eqb, ne_eqb}
 use mathlib.Core.Path.{◌≡◌, refl, sym, ◌∙◌}
 use mathlib.Core.Bool.{Bool, true, false}
@@ -27,9 +26,6 @@ pub returns-then-x-track : goal.returns-then-x-track
 unfolding carries_as
 returns-then-x-track c = rw (eq-eqb _ _ c.if-x-ne-MEDIA.false, ne_eqb _ _ c.if-x-track.true)
 
-pub bounds-types-wide : goal.bounds-types-wide
-bounds-types-wide c = omega (arith, c.wide.ensures, c.requires)
-
 pub by_half-requires : goal.by_half-requires
 by_half-requires c = c.if-x-field.false
 
@@ -37,11 +33,11 @@ pub returns-then-is_known : goal.returns-then-is_known
 unfolding carries_as
 returns-then-is_known c = let a = c.args in
     let b = is_field (carries_two (get_or a.types.now a.x.track 0) a.x.field) a.x.field a.field in
-    rw c.wide.ensures at c.by_half.ensures
+    c.by_half.ensures
     ∙ rw (eq-eqb _ _ c.if-x-ne-MEDIA.false, eq-eqb _ _ c.if-x-track.false, sym c.is_known.ensures ∙ c.if-is_known.true) (sym (as-it-is b))
 
-pub returns : goal.returns
+pub returns-else-is_known : goal.returns-else-is_known
 unfolding carries_as
-returns c = let a = c.args in
+returns-else-is_known c = let a = c.args in
     let b = is_field (carries_two (get_or a.types.now a.x.track 0) a.x.field) a.x.field a.field in
-    rw (eq-eqb _ _ c.if-x-ne-MEDIA.false, eq-eqb _ _ c.if-x-track.false, sym c.is_known.ensures ∙ c.if-is_known.false) (sym (no_choice b false))
+    c.if-is_known.false ∙ rw (eq-eqb _ _ c.if-x-ne-MEDIA.false, eq-eqb _ _ c.if-x-track.false, sym c.is_known.ensures ∙ c.if-is_known.false) (sym (no_choice b false))

@@ -1,15 +1,15 @@
-use mathlib.Core.Path.{sym, ◌∙◌}
-use Rattle.stream.proofs.Laws.{first_alone}
+use mathlib.Core.Path.{sym, ap, ◌∙◌}
+use mathlib.Core.Bool.{not}
+use Rattle.stream.proofs.Laws.{first_alone, none_yet, one_already}
 use Rattle.stream.proofs.first_with.Goals as goal
+use Rattle.stream.proofs.first_with.Goals.{else-is_none-via-then-is_none+else-carries, else-is_none-via-else-is_none}
 
-pub carries-requires : goal.carries-requires
-carries-requires c = c.requires
-
-pub returns-in-At : goal.returns-in-At
-returns-in-At c = rw c.in-At.is
-
-pub returns-in-Nothing : goal.returns-in-Nothing
-returns-in-Nothing c = rw (c.in-Nothing.is, sym c.carries.ensures ∙ c.if-carries.true)
+pub returns-then-carries : goal.returns-then-carries
+returns-then-carries c = sym (none_yet c.args.first _ (c.is_none.ensures ∙ ap not c.if-is_none.true) ∙ rw (sym c.carries.ensures ∙ c.if-carries.true))
 
 pub returns : goal.returns
-returns c = rw (sym c.carries.ensures ∙ c.if-carries.false) (sym (first_alone _))
+returns c =
+    elim c.else-is_none.branch [
+      | else-is_none-via-then-is_none+else-carries w ↦ rw (sym w.carries.ensures ∙ w.if-carries.false) (sym (first_alone _))
+      | else-is_none-via-else-is_none w ↦ sym (one_already c.args.first _ (c.is_none.ensures ∙ ap not w.if-is_none.false))
+    ]

@@ -1,25 +1,18 @@
-use native.Mathlib.Omega.{arith}
-use mathlib.Core.Path.{sym, refl, ◌∙◌}
-use borrow.Author.Tests.{le-ltb, lt-ltb, eq-eqb, ne_eqb}
-use Rattle.text.proofs.Laws.{text_empty, text_last, text_turn}
+use Rattle.std.proofs.Common.{rules, tests}
+use mathlib.Core.Path.{sym, ◌∙◌}
+use borrow.Author.Tests.{ne_eqb}
+use Rattle.std.proofs.lemmas.Iterator.{YieldsList-from_slice}
+use Rattle.std.proofs.lemmas.Iterator.Search.{all_from_yields_List}
+use Rattle.text.proofs.Laws.{inner, text_empty, text_last, text_other}
 use Rattle.text.proofs.is_text.Goals as goal
 
-pub returns-then-v-eq0 : goal.returns-then-v-eq0
-returns-then-v-eq0 c = sym (text_empty _ c.if-v-eq0.true)
+pub returns-in_default : goal.returns-in_default
+returns-in_default c = sym (text_empty _ c.in_default.ensures.cases)
 
-pub loop-i-init : goal.loop-i-init
-loop-i-init c = (omega arith, refl)
+pub returns-then-last-eq0 : goal.returns-then-last-eq0
+returns-then-last-eq0 c =
+    all_from_yields_List inner _ _ _ c.all.ensures.ran (YieldsList-from_slice c.in-Some.front.now (search rules)) (λ x b q k. search (rules, tests))
+    ∙ sym (rw c.in-Some.ensures.cases.0 (text_last _ _ c.if-last-eq0.true))
 
-pub returns-then-b-eq0 : goal.returns-then-b-eq0
-returns-then-b-eq0 c = let l = c.loop-i in sym (l.invariant.1 ∙ text_turn c.args.v.now l.i (omega arith) ∙ simp (eq-eqb _ _ c.if-b-eq0.true))
-
-pub returns-then-b-ge128 : goal.returns-then-b-ge128
-returns-then-b-ge128 c = let l = c.loop-i in
-    sym (l.invariant.1 ∙ text_turn c.args.v.now l.i (omega arith) ∙ simp (ne_eqb _ _ c.if-b-eq0.false, le-ltb _ _ c.if-b-ge128.true))
-
-pub loop-i-preserved : goal.loop-i-preserved
-loop-i-preserved c = let l = c.loop-i in
-    (omega arith, l.invariant.1 ∙ text_turn c.args.v.now l.i (omega arith) ∙ simp (ne_eqb _ _ c.if-b-eq0.false, lt-ltb _ _ c.if-b-ge128.false))
-
-pub returns : goal.returns
-returns c = let l = c.loop-i in sym (l.invariant.1 ∙ text_last c.args.v.now l.i (omega arith))
+pub returns-else-last-eq0 : goal.returns-else-last-eq0
+returns-else-last-eq0 c = ne_eqb _ _ c.if-last-eq0.false ∙ sym (rw c.in-Some.ensures.cases.0 (text_other _ _ c.if-last-eq0.false))

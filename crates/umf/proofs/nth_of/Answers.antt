@@ -1,17 +1,12 @@
 use mathlib.Core.Path.{sym, ◌∙◌}
+use Rattle.std.proofs.lemmas.Result.{err_from_is_err_and}
 use Rattle.umf.specs.Umf.{place_of}
-use Rattle.umf.proofs.Laws.{placed_at, placed_none}
+use Rattle.umf.proofs.Laws.{placed}
 use Rattle.umf.proofs.nth_of.Goals as goal
 
-pub nth_in-requires : goal.nth_in-requires
-nth_in-requires c = sym c.verdict_of.ensures ∙ c.in-Accepted.is
-
-pub returns-in-Refused : goal.returns-in-Refused
+pub returns-in_err-verdict_of : goal.returns-in_err-verdict_of
 unfolding place_of
-returns-in-Refused c = simp (sym c.verdict_of.ensures ∙ c.in-Refused.is)
+returns-in_err-verdict_of c = let p = err_from_is_err_and c.from_residual.result c.from_residual.ensures.1 in rw (p.1, p.2) (simp (sym c.in_err-verdict_of.ensures))
 
-pub returns-in-At : goal.returns-in-At
-returns-in-At c = simp (sym c.verdict_of.ensures ∙ c.in-Accepted.is) (placed_at _ _ _ (sym c.nth_in.ensures ∙ c.in-At.is))
-
-pub returns-in-Absent : goal.returns-in-Absent
-returns-in-Absent c = simp (sym c.verdict_of.ensures ∙ c.in-Accepted.is, c.refuse.ensures) (placed_none _ (sym c.nth_in.ensures ∙ c.in-Absent.is))
+pub returns : goal.returns
+returns c = c.ok_or.ensures.value ∙ rw (c.nth_in.ensures, c.refuse.ensures, sym c.in_ok-verdict_of.ensures) (placed _)

@@ -1,5 +1,4 @@
 use borrow.Author.Rules.{rules}
-use borrow.Author.Rules.{rules}
 use Rattle.number.proofs.Laws.{le_lt}
 use Rattle.umf_answer.proofs.half.Goals as goal
 

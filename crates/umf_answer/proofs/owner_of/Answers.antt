@@ -1,16 +1,16 @@
 use mathlib.Core.Path.{sym, ◌∙◌}
-use borrow.Author.Tests.{eq-eqb, ne_eqb}
+use Rattle.plate.proofs.Tests.{tests}
 use Rattle.umf_answer.specs.Says.{owner_of}
 use Rattle.umf_answer.proofs.owner_of.Goals as goal
 
-pub returns-then-n-eq0 : goal.returns-then-n-eq0
+pub returns-in-0 : goal.returns-in-0
 unfolding owner_of
-returns-then-n-eq0 c = simp (eq-eqb _ _ c.if-n-eq0.true)
+returns-in-0 c = search tests
 
-pub returns-then-is_track : goal.returns-then-is_track
+pub returns-in_default : goal.returns-in_default
 unfolding owner_of
-returns-then-is_track c = simp (ne_eqb _ _ c.if-n-eq0.false, sym c.is_track.ensures ∙ c.if-is_track.true)
+returns-in_default c = search (tests, sym c.is_track.ensures ∙ c.if-is_track.true)
 
-pub returns : goal.returns
+pub returns-in_default-2 : goal.returns-in_default-2
 unfolding owner_of
-returns c = simp (ne_eqb _ _ c.if-n-eq0.false, sym c.is_track.ensures ∙ c.if-is_track.false)
+returns-in_default-2 c = search (tests, sym c.is_track.ensures ∙ c.if-is_track.false)

@@ -1,5 +1,4 @@
 use borrow.Author.Rules.{rules}
-use borrow.Author.Rules.{rules}
 use native.Mathlib.Omega.{arith}
 use mathlib.Core.Path.{sym}
 use borrow.Author.Tests.{eq-eqb, ne_eqb}
@@ -27,14 +26,14 @@ overflow_add-end c = let g = good_umf _ c.requires in search (rules, g.holds, c.
 pub slice_bounds-y-end : goal.slice_bounds-y-end
 slice_bounds-y-end c = let g = good_umf _ c.requires in omega (arith, g.holds, c.be4-n.ensures)
 
-pub payload_says-payload-requires : goal.payload_says-payload-requires
-payload_says-payload-requires c = (cut_good _ _ c.be4-n.ensures c.requires c.if-p-ne3.false).described
+pub payload_says-requires : goal.payload_says-requires
+payload_says-requires c = (cut_good _ _ c.be4-n.ensures c.requires c.if-p-ne3.false).described
 
-pub material_says-material-requires : goal.material_says-material-requires
-material_says-material-requires c = (cut_good _ _ c.be4-n.ensures c.requires c.if-p-ne3.false).described
+pub material_says-requires : goal.material_says-requires
+material_says-requires c = (cut_good _ _ c.be4-n.ensures c.requires c.if-p-ne3.false).described
 
-pub number_of-users-requires : goal.number_of-users-requires
-number_of-users-requires c = let g = cut_good _ _ c.be4-n.ensures c.requires c.if-p-ne3.false in (omega (arith, g.described), (g.each _).inside)
+pub number_of-requires : goal.number_of-requires
+number_of-requires c = let g = cut_good _ _ c.be4-n.ensures c.requires c.if-p-ne3.false in (omega (arith, g.described), (g.each _).inside)
 
 pub overflow_cast-result : goal.overflow_cast-result
 overflow_cast-result c = let a = c.args in search (rules, c.be4-n.ensures, be_lt a.p.now c.type_inv.p 17 4)
@@ -42,4 +41,4 @@ overflow_cast-result c = let a = c.args in search (rules, c.be4-n.ensures, be_lt
 pub returns : goal.returns
 unfolding says_of
 returns c = let e = cut_out _ _ c.be4-n.ensures in
-    simp (eq-eqb _ _ c.if-p-ne3.false, sym e, c.payload_says-payload.ensures, c.material_says-material.ensures, c.number_of-users.ensures, c.be4-n.ensures)
+    simp (eq-eqb _ _ c.if-p-ne3.false, sym e, c.payload_says.ensures, c.material_says.ensures, c.number_of.ensures, c.be4-n.ensures)

@@ -1,10 +1,7 @@
-use Prim.Native.Nat.{ℕ}
-use mathlib.Core.Path.{ap}
-use Rattle.walker.specs.Walk.{Stepped}
-use Rattle.walker.specs.declared.Walker.{Walker}
+use native.Mathlib.Omega.{arith}
+use mathlib.Core.Path.{sym}
+use Rattle.packet.proofs.Laws.{whole}
 use Rattle.walker.proofs.step.Goals as goal
 
--- the walker is written at its place alone
-pub returns : goal.returns
-unfolding Stepped
-returns c = (c.header-answer.ensures, ap {B = Walker} (λ (k : ℕ). record { stream = c.args.w.now.stream; at = k }) c.after-w.ensures)
+pub overflow_add-w : goal.overflow_add-w
+overflow_add-w c = let g = whole _ _ _ (sym c.in-Ok.ensures) in record { fits = omega arith }

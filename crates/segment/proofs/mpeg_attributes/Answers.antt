@@ -1,4 +1,0 @@
-use Rattle.segment.proofs.mpeg_attributes.Goals as goal
-
-pub returns : goal.returns
-returns c = simp (c.shown_if.ensures, c.is_mask.ensures)
