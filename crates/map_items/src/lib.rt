@@ -140,7 +140,7 @@ pub fn found(s: &[u8], base: usize, tag: u8) -> Option<Part>
             return Some(Part {
                 at: base + at + 2, // behind its tag and length
                 len: n,
-            }); // behind its tag and length
+            });
         }
         at = at + 2 + n;
     }

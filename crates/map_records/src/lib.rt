@@ -1,5 +1,5 @@
 // The map reader into lent track records: one record for each listed track, in map order.
-// `fill` takes a slice of structs, and is thin: what it answers, how many records it writes and what each holds are functions by value.
+// `fill` takes a slice of structs, and is thin: what it answers and what each record holds are functions by value.
 #![tactic(auto)]
 
 ghost use Rattle.std.specs.Prelude.{◌≡◌, slice_get};

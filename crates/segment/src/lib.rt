@@ -87,6 +87,7 @@ fn is_rate(t: u32, n: u32) -> bool
 }
 
 // Whether a number is a sample size or data rate of a type.
+#[tactic(auto, unfolding(crate::specs::Segment::sizes_of, crate::specs::Segment::allowed, map_items::specs::Judge::has))]
 fn is_size(t: u32, n: u32) -> bool
     ensures { result ≡ allowed (sizes_of t) n }
 {
