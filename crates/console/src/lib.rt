@@ -44,7 +44,7 @@ pub fn refused(r: Refusal)
     say(b"refused");
     figure(r.fault.number() as u64);
     figure(r.place as u64);
-    if r.fault == Fault::Torn {
+    if r.fault.number() == Fault::Torn.number() {
         figure(r.lacking as u64);
     }
 }

@@ -142,11 +142,24 @@ pub fn material_says(s: &[u8], base: usize) -> Material
     }
 }
 
-// What an item says, but nothing under a null name.
-fn unless_null<T: Copy>(null: bool, said: Option<T>) -> Option<T>
-    ensures { result ≡ pick null None said }
+// The part of an item by its tag; none under a null name, where the items are not walked again.
+fn shown(s: &[u8], base: usize, tag: u8, null: bool) -> Option<Part>
+    requires { base + length s.now < 2 ^ 64 }
+    ensures { result ≡ pick null None (part_of (find tag base (section_of s.now).list)) }
 {
-    if null { None } else { said }
+    if null {
+        None
+    } else {
+        map_items::found(s, base, tag)
+    }
+}
+
+// The version; none under a null name.
+fn version(s: &[u8], base: usize, null: bool) -> Option<u32>
+    requires { base + length s.now < 2 ^ 64 }
+    ensures { result ≡ pick null None (value_of (find 0x4E base (section_of s.now).list)) }
+{
+    if null { None } else { value_at(s, base, 0x4E) }
 }
 
 // The bytes of a part of a section that begins at place base of its packet.
@@ -175,9 +188,9 @@ pub fn record(type_byte: u8, id: u8, s: &[u8], base: usize) -> Track
     let fields = code_at(s, base, 0x52);
     let name = map_items::found(s, base, 0x4C);
     let null = is_null(name);
-    let version = unless_null(null, value_at(s, base, 0x4E));
-    let aux = unless_null(null, map_items::found(s, base, 0x4D));
-    let mpeg = unless_null(null, map_items::found(s, base, 0x4F));
+    let version = version(s, base, null);
+    let aux = shown(s, base, 0x4D, null);
+    let mpeg = shown(s, base, 0x4F, null);
     let bits = part_bytes(s, base, aux);
     let text = part_bytes(s, base, mpeg);
     let aspect = map_aspect::of_track(media_type, bits, text);

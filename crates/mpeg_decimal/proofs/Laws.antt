@@ -9,7 +9,7 @@ use native.Mathlib.Omega.{arith}
 use native.Mathlib.Nat.{pow-succ', pow-le-pow_right, zero-add, mul-le-mul}
 use native.Mathlib.Numerals.{add-one}
 use borrow.Author.Tests.{lt-ltb, le-ltb, lt-leb, le-leb, leb-true}
-use lib.ListN.{length, get_or, drop, drop_of_length-le}
+use lib.ListN.{length, get_or, take, drop, drop_of_length-le}
 use lib.Seq.{drop-cons}
 use lib.Dec.{ltb, leb}
 use Rattle.std.specs.Prelude.{Option, Some, None}
@@ -17,7 +17,7 @@ use Rattle.std.specs.Bool.{then_some}
 use Rattle.std.specs.Char.{is_ascii_digit}
 use Rattle.mpeg_scan.proofs.Laws.{in_range_is}
 use Rattle.plate.specs.Choice.{pick, within}
-use Rattle.mpeg_decimal.specs.Decimal.{digits, numeral_of, fraction_of, times}
+use Rattle.mpeg_decimal.specs.Decimal.{digits, numeral_of, whole_of, fraction_of, times, plus, point_in, rate_of}
 
 pub malformed_not : {X : Type 0} {n : ℕ} → None ≡ Some n → X
 malformed_not e = absurd (let z : ◌≡◌ {A = ℕ} 0 1 = cc in omega arith)
@@ -111,3 +111,20 @@ fraction_lt (x ∷ v) m e = go (numeral_of 6 v) refl e
     go : (a : Option ℕ) → numeral_of 6 v ≡ a → times (10 ^ (6 - length v)) a ≡ Some m → m < 1000000000000
     go (Some n) q w = let z : n * 10 ^ (6 - length v) ≡ m = cc in let l = numeral_lt 6 v n q in let t = scaled (length v) {n = n} l refl in omega arith
     go None q w = malformed_not w
+
+pub whole_lt : (v : List ℕ) (n : ℕ) → whole_of v ≡ Some n → n < 1000000000
+unfolding whole_of
+whole_lt v n e = numeral_lt 9 v n e
+
+pub rate_most : (v : List ℕ) (n : ℕ) → rate_of v ≡ Some n → n ≤ 2 ^ 53
+unfolding rate_of
+rate_most v n = go (times 1000000 (numeral_of 10 (take (point_in v) v))) (fraction_of (drop (point_in v) v))
+  where
+    pick_most : (t : ℕ) (b : Bool) → leb t (2 ^ 53) ≡ b → pick b (Some t) None ≡ Some n → n ≤ 2 ^ 53
+    pick_most t true q w = let z : t ≡ n = cc in let l = leb-true t (2 ^ 53) q in omega arith
+    pick_most t false q w = malformed_not w
+
+    go : (a b : Option ℕ) → plus a b ≡ Some n → n ≤ 2 ^ 53
+    go (Some x) (Some y) w = pick_most (x + y) (leb (x + y) (2 ^ 53)) refl w
+    go (Some x) None w = malformed_not w
+    go None b w = malformed_not w

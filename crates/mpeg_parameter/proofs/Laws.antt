@@ -1,5 +1,5 @@
 -- What the functions over one parameter rest on.
-use Prim.Native.Nat.{ℕ, zero, suc, ◌+◌, ◌<◌, ◌≤◌}
+use Prim.Native.Nat.{ℕ, zero, suc, ◌+◌, ◌^◌, ◌<◌, ◌≤◌}
 use mathlib.Core.Path.{◌≡◌, refl, sym, subst, ◌∙◌}
 use mathlib.Core.Bool.{Bool, true, false, not}
 use mathlib.Core.List.{List}
@@ -11,9 +11,20 @@ use lib.Ieee.{Float, nan, inf, fin, eq, is_nan}
 use Rattle.std.specs.Prelude.{Option, Some, None}
 use native.Mathlib.Numerals.{add-one}
 use Rattle.plate.specs.Choice.{pick}
-use Rattle.mpeg_parameter.specs.Table.{row_at, least, most}
-use Rattle.mpeg_parameter.specs.Parameters.{given, wanting, number_of, lacking}
+use Rattle.mpeg_parameter.specs.Table.{row_at, rate, least, most}
+use Rattle.mpeg_decimal.specs.Decimal.{whole_of, rate_of}
+use Rattle.mpeg_decimal.proofs.Laws.{whole_lt, rate_most}
+use Rattle.mpeg_parameter.specs.Parameters.{amount_of, given, wanting, number_of, lacking}
 use Rattle.mpeg_parameter.specs.declared.Row.{Row}
+
+-- a line's number is under 2^53 or that
+pub amount_most : (r : Row) (v : List ℕ) (n : ℕ) → amount_of r v ≡ Some n → n ≤ 2 ^ 53
+unfolding amount_of
+amount_most r v n = go (rate r)
+  where
+    go : (b : Bool) → pick b (rate_of v) (whole_of v) ≡ Some n → n ≤ 2 ^ 53
+    go true e = rate_most v n e
+    go false e = let w = whole_lt v n e in omega arith
 
 -- a parameter's number is in the list, or 0
 pub number_most : (r : Row) (slot : Option ℕ) → number_of r slot ≤ most r

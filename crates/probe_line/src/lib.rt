@@ -85,7 +85,7 @@ pub fn answer(out: &mut [u8], at: usize, word: &[u8], a: Result<usize, Refusal>)
 // A refusal: its number and its place, and of a torn packet the bytes lacking.
 pub fn refused(out: &mut [u8], at: usize, r: Refusal) -> usize {
     let k = two(out, at, b"refused", r.fault.number() as usize, r.place);
-    if r.fault == Fault::Torn {
+    if r.fault.number() == Fault::Torn.number() {
         return figure(out, k, r.lacking as u64);
     }
     k

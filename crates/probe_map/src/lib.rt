@@ -59,6 +59,8 @@ fn words(out: &mut [u8], a: Result<MapSays, Refusal>) -> usize {
 }
 
 // None where more than 80 records are asked for: the request is malformed.
+// It is called, so that its room is on the stack for these requests alone.
+#[inline(never)]
 pub fn map(out: &mut [u8], s: &[u8], at: usize, n: usize) -> Option<usize> {
     if 80 < n {
         return None;

@@ -16,6 +16,8 @@ fn build_in(out: &mut [u8], room: &mut [u8], s: &[u8]) -> usize {
 }
 
 // None where the room is over 65,536 bytes: the request is malformed.
+// It is called, so that its room is on the stack for these requests alone.
+#[inline(never)]
 pub fn build(out: &mut [u8], s: &[u8], n: usize) -> Option<usize> {
     if 65536 < n {
         return None;

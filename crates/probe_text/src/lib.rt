@@ -72,6 +72,8 @@ pub fn text(out: &mut [u8], s: &[u8]) -> usize {
 }
 
 // The name of a track by two maps: the second is still to be read.
+// It is called, so that its room is on the stack for these requests alone.
+#[inline(never)]
 pub fn two(out: &mut [u8], x: u64, a: &[u8]) -> Option<usize> {
     let mut b = [0u8; 65536];
     let b = probe_request::string(&mut b)?;

@@ -10,6 +10,8 @@ fn locator_in(out: &mut [u8], room: &mut [u8], at: usize, step: u64, offsets: &[
     probe_line::hex(out, k, room)
 }
 
+// It is called, so that its room is on the stack for these requests alone.
+#[inline(never)]
 pub fn locator(out: &mut [u8], s: &[u8], at: usize, n: usize, step: u64) -> Option<usize> {
     if 65536 < n || s.len() % 8 != 0 {
         return None;
@@ -54,6 +56,8 @@ fn three(out: &mut [u8], x: u64, y: u64, a: &[u8], b: &[u8]) -> Option<usize> {
 }
 
 // The map writer: the material's words and the tracks' are still to be read.
+// It is called, so that its room is on the stack for these requests alone.
+#[inline(never)]
 pub fn map_request(out: &mut [u8], x: u64, y: u64, a: &[u8]) -> Option<usize> {
     let mut b = [0u8; 65536];
     let b = probe_request::string(&mut b)?;

@@ -55,7 +55,7 @@ pub record WrongForms : Type 0 where
   pub name : (s : List ℕ) (id : ℕ) (r : Refusal) → MapRefused s 0 r → (x : Result Part Refusal) → Places s id x → x ≡ Err r
   pub opening : (a b : List ℕ) (id : ℕ) (r : Refusal) → MapRefused a 0 r → (x : Result OfTwo Refusal) → PlacesOfTwo a b id x → x ≡ Err r
   pub closing : (a b : List ℕ) (id : ℕ) (m : MapSays) → map_at a 0 ≡ Ok m → (r : Refusal) → MapRefused b 0 r → (x : Result OfTwo Refusal) → PlacesOfTwo a b id x → x ≡ Err r
-  -- and the map reader's own fault.WrongForm is no other's: it is that of the map which stands there
+  -- and the map reader's own 29 is no other's: it is that of the map which stands there
   pub read_only : (s : List ℕ) (at : ℕ) (r : Refusal) → ReadsMap s at (Err r) → number r ≡ 29 → MapRefused s at r
   -- the check: a 29 is that of the map at which the packets stop, its offset added
   pub check : (s : List ℕ) (r : Refusal) → Checks s (Err r) → number r ≡ 29 → StreamWrongForm s r

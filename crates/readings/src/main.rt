@@ -116,34 +116,35 @@ fn show_stream(s: &[u8]) {
     show_seek(s, 0, 4294967296);
 }
 
-// A file's first bytes, as many as the buffer takes, shown behind a name.
+// A file's first bytes, as many as the buffer takes, shown behind a word and a name; nothing is printed before the file is read.
 fn show_file<Show: Fn(&[u8])>(
     rt: &HostRuntime,
     buffer: &mut [u8],
     path: &[u8],
+    word: &[u8],
     name: &[u8],
     show: Show,
 )
     requires { Show.IsAlwaysCallable show }
 {
     let n = load(rt, path, buffer);
+    say(word);
     say(name);
     say(b": ");
     show(&buffer[..n]);
 }
 
 fn stream_file(rt: &HostRuntime, path: &[u8]) {
-    show_file(rt, &mut [0u8; 131072], path, path, show_stream);
+    show_file(rt, &mut [0u8; 131072], path, b"", path, show_stream);
 }
 
 fn check_file(rt: &HostRuntime, path: &[u8]) {
-    show_file(rt, &mut [0u8; 4096], path, path, show_check);
+    show_file(rt, &mut [0u8; 4096], path, b"", path, show_check);
 }
 
 // What the listing prints of a stream.
 fn list_file(rt: &HostRuntime, path: &[u8]) {
-    say(b"list ");
-    show_file(rt, &mut [0u8; 4096], path, path, lister::list);
+    show_file(rt, &mut [0u8; 4096], path, b"list ", path, lister::list);
 }
 
 // The rate of an auxiliary text, its bits held to those that were computed outside.
@@ -169,11 +170,11 @@ fn show_rate(text: &[u8], want: u64) {
 }
 
 fn rate_file(rt: &HostRuntime, path: &[u8], value: &[u8], want: u64) {
-    say(b"Br ");
     show_file(
         rt,
         &mut [0u8; 256],
         path,
+        b"Br ",
         value,
         |text| show_rate(text, want),
     );

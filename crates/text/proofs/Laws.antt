@@ -1,11 +1,13 @@
 -- The text rule by the last byte and those in front of it.
-use Prim.Native.Nat.{ℕ}
+use Prim.Native.Nat.{ℕ, suc, ◌+◌, ◌<◌}
 use mathlib.Core.Path.{◌≡◌, refl, ◌∙◌}
 use mathlib.Core.Bool.{Bool, true, false}
 use mathlib.Core.List.{List, [], ◌∷◌, ◌++◌}
 use native.Mathlib.Omega.{arith}
+use native.Mathlib.Numerals.{add-one}
 use borrow.Author.Tests.{eq-eqb, ne_eqb, leb-true, leb-false, lt-ltb, le-ltb}
-use lib.ListN.{length}
+use lib.ListN.{length, get_or, drop, drop_of_length-le}
+use lib.Seq.{drop-cons}
 use lib.Dec.{ltb, leb, eqb}
 use Rattle.std.specs.Prelude.{◌&&◌}
 use Rattle.std.specs.List.{list_all}
@@ -48,3 +50,13 @@ text_other (x ∷ front) last h = text_more x front last ∙ rw (text_other fron
     go : (b : Bool) → b && false ≡ false
     go true = refl
     go false = refl
+
+-- from a place on: the last byte, and one more before it
+pub text_end : (v : List ℕ) (i : ℕ) → i + 1 ≡ length v → text_ok (drop i v) ≡ eqb (get_or v i 0) 0
+unfolding text_ok
+text_end v i h = rw (drop-cons v i 0 (omega arith), drop_of_length-le v {i = suc i} (omega arith))
+
+pub text_turn : (v : List ℕ) (i : ℕ) → i + 1 < length v
+    → text_ok (drop i v) ≡ pick (eqb (get_or v i 0) 0) false (pick (ltb (get_or v i 0) 0x80) (text_ok (drop (i + 1) v)) false)
+unfolding text_ok
+text_turn v i h = rw (drop-cons v i 0 (omega arith), add-one, drop-cons v (suc i) 0 (omega arith))

@@ -1,6 +1,5 @@
-use Rattle.std.proofs.Common.{rules, tests}
+use Rattle.std.proofs.Common.{rules, tests, drop}
 use Rattle.std.proofs.lemmas.Iterator.{YieldsList-from_slice}
-use Rattle.std.proofs.lemmas.Iterator.Adapters.{YieldsList-from_skip}
 use Rattle.std.proofs.lemmas.Iterator.Consumers.{count_from_yields_List}
 use Rattle.std.proofs.lemmas.Iterator.Search.{YieldsList-from_take_while}
 use Rattle.mpeg_scan.specs.Scan.{other}
@@ -14,5 +13,5 @@ returns c =
     run_end_is _ a.s.now a.at _
     (count_from_yields_List c.take_while.result _ c.count.ensures.ran
     (YieldsList-from_take_while _ (other a.stop)
-    (YieldsList-from_skip a.at (YieldsList-from_slice a.s.now (search rules)) (search rules))
+    (YieldsList-from_slice (drop a.at a.s.now) (search (rules, c.rest.ensures)))
     c.take_while.ensures.closure c.take_while.ensures.done (λ x b q k. search (rules, tests))))
