@@ -1,13 +1,14 @@
--- Runs from a place on, by the library's count of those in front: where they end, and of what kind their first is.
+-- Runs from a place on: at the end, at one of another kind, at one of the kind; by the library's count of those in front; and where they end.
 use Prim.Native.Nat.{ℕ, suc, ◌+◌, ◌<◌, ◌≤◌}
 use mathlib.Core.Path.{◌≡◌, refl}
 use mathlib.Core.List.{List, [], ◌∷◌}
 use mathlib.Core.Bool.{Bool, true, false}
 use native.Mathlib.Omega.{arith}
 use native.Mathlib.Nat.{add-zero}
+use native.Mathlib.Numerals.{add-one}
 use Rattle.std.proofs.lemmas.List.Folds.{length-prefix_len}
-use lib.ListN.{take, length, get_or, drop, length-drop}
-use lib.Seq.{get_or-drop}
+use lib.ListN.{take, length, get_or, drop, drop_of_length-le, length-drop}
+use lib.Seq.{get_or-drop, drop-cons}
 use Rattle.std.proofs.lemmas.List.Sums.{prefix_len-le-length, prefix_len_passes}
 use Rattle.plate.specs.Choice.{pick, within}
 use Rattle.mpeg_scan.specs.Scan.{run, run_end, alnum}
@@ -52,6 +53,18 @@ pub run_most : {A : Type 0} (p : A → Bool) (s : List A) → run p s ≤ length
 run_most p s = rw (← run_is p s) (prefix_len-le-length p s)
 
 module _ {A : Type 0} (p : A → Bool) (s : List A) (at : ℕ) where
+  pub run_out : length s ≤ at → at ≡ run_end p s at
+  unfolding run_end run
+  run_out h = rw (drop_of_length-le s h, add-zero)
+
+  pub run_stop : (d : A) → at < length s → p (get_or s at d) ≡ false → at ≡ run_end p s at
+  unfolding run_end run
+  run_stop d h e = rw (drop-cons s at d h) (simp (e, add-zero))
+
+  pub run_go : (d : A) → at < length s → p (get_or s at d) ≡ true → run_end p s at ≡ run_end p s (at + 1)
+  unfolding run_end run
+  run_go d h e = rw (drop-cons s at d h, add-one) (simp e (omega arith))
+
   pub run_from : at ≤ run_end p s at
   unfolding run_end
   run_from = omega arith

@@ -22,7 +22,12 @@ fn rest(s: &[u8], at: usize) -> &[u8]
 pub fn alnum_end(s: &[u8], at: usize) -> usize
     ensures { result ≡ run_end alnum s.now at }
 {
-    at + rest(s, at).iter().take_while(|b| is_alnum(**b)).count()
+    for i in at..s.len() {
+        if !is_alnum(s[i]) {
+            return i;
+        }
+    }
+    at.max(s.len())
 }
 
 // The place of the first byte, from a place on, that is `stop`, or the end.
