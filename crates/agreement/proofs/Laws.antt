@@ -16,10 +16,10 @@ use Rattle.book_builder.specs.BookBuilder.{entries_in, in_room, build_answer, bu
 use Rattle.book_builder.proofs.Contracts.{Lent}
 use Rattle.book_builder.proofs.Same.{lookup_is_seek}
 use Rattle.plate.specs.contracts.RefusalPartialEq.TheImpl as contracts
-use denote.Enum.Bare.{true_same}
-use Rattle.plate.specs.contracts.Fault.{the_type}
+use Rattle.plate.specs.contracts.FaultPartialEq.TheImpl as faults
 use Rattle.std.specs.Result.{result_eq}
 use Rattle.plate.specs.declared.Refusal.{Refusal}
+use Rattle.plate.specs.declared.Fault.{Fault}
 use Rattle.plate.specs.declared.Fault.TheVariants as fault
 
 pub had_room : (l s : List ℕ) (n : ℕ) → build_answer l s ≡ Ok n → 16 * n ≤ length l
@@ -37,10 +37,42 @@ had_room l s n = go (check_of s) (ltb (length l) (16 * length (entries_in s))) r
         by : ◌≡◌ {A = Result ℕ Refusal} (Ok (length (entries_in s))) (Ok n) → 16 * n ≤ length l
         by e = let m : n ≡ length (entries_in s) = cc in omega (arith, m, ltb-false (length l) (16 * length (entries_in s)) q)
 
+-- a fault is equal to itself, as the code compares faults
+fault_equal : (f : Fault) → faults.eq-value.it f f ≡ true
+fault_equal fault.FewBytes = refl
+fault_equal fault.Leader = refl
+fault_equal fault.Trailer = refl
+fault_equal fault.PacketLength = refl
+fault_equal fault.Torn = refl
+fault_equal fault.OtherType = refl
+fault_equal fault.MapVersion = refl
+fault_equal fault.Overhang = refl
+fault_equal fault.ItemSize = refl
+fault_equal fault.Twice = refl
+fault_equal fault.Text = refl
+fault_equal fault.TypeOrId = refl
+fault_equal fault.Room = refl
+fault_equal fault.LocatorCount = refl
+fault_equal fault.LocatorStep = refl
+fault_equal fault.NotThere = refl
+fault_equal fault.NoMapFirst = refl
+fault_equal fault.StreamEnd = refl
+fault_equal fault.LocatorPlace = refl
+fault_equal fault.MapOverdue = refl
+fault_equal fault.NoUmf = refl
+fault_equal fault.Unmapped = refl
+fault_equal fault.Book = refl
+fault_equal fault.Barred = refl
+fault_equal fault.AuxiliaryLine = refl
+fault_equal fault.NotGiven = refl
+fault_equal fault.WrongForm = refl
+fault_equal fault.UmfForm = refl
+fault_equal (fault.Other n) = eq-eqb n n refl
+
 -- an answer is equal to itself, as the code compares answers
 pub self_equal : (a : Result ℕ Refusal) → result_eq eqb contracts.eq-value.it a a ≡ true
 self_equal (Ok o) = eq-eqb o o refl
-self_equal (Err r) = rw (true_same the_type r.fault r.fault refl, eq-eqb r.lacking r.lacking refl) (eq-eqb r.place r.place refl)
+self_equal (Err r) = rw (fault_equal r.fault, eq-eqb r.lacking r.lacking refl) (eq-eqb r.place r.place refl)
 
 -- so no equal answers are found unequal
 pub unequal : (a b : Result ℕ Refusal) → a ≡ b → result_eq eqb contracts.eq-value.it a b ≡ false → ⊥

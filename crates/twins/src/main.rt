@@ -6,7 +6,7 @@ use console::say;
 use map_answer::{Material, Track};
 use map_aspect::Aspect;
 use map_items::Part;
-use plate::Fault;
+use plate::{Fault, Refusal};
 
 fn figure(n: usize) {
     console::figure(n as u64);
@@ -51,11 +51,16 @@ fn same_track(p: &[u8], a: Track, q: &[u8], b: Track) -> bool {
         && same_part(p, a.mpeg, q, b.mpeg)
 }
 
+// Whether the thing asked for isn't there.
+fn is_16(r: Refusal) -> bool {
+    r.fault.number() == Fault::NotThere.number()
+}
+
 // The k-th track: a record in both that is the same, or a refusal with 16 in both.
 fn same_kth(p: &[u8], q: &[u8], k: usize) -> bool {
     match (map::track(p, 0, k), map::track(q, 0, k)) {
         (Ok(a), Ok(b)) => same_track(p, a, q, b),
-        (Err(r), Err(t)) => r.fault == Fault::NotThere && t.fault == Fault::NotThere,
+        (Err(r), Err(t)) => is_16(r) && is_16(t),
         _ => false,
     }
 }
