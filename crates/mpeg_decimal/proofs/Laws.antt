@@ -112,6 +112,7 @@ fraction_lt (x ∷ v) m e = go (numeral_of 6 v) refl e
     go (Some n) q w = let z : n * 10 ^ (6 - length v) ≡ m = cc in let l = numeral_lt 6 v n q in let t = scaled (length v) {n = n} l refl in omega arith
     go None q w = malformed_not w
 
+-- a whole number has nine digits at most, and a rate is at most 2^53 millionths
 pub whole_lt : (v : List ℕ) (n : ℕ) → whole_of v ≡ Some n → n < 1000000000
 unfolding whole_of
 whole_lt v n e = numeral_lt 9 v n e

@@ -17,7 +17,7 @@ use Rattle.mpeg_decimal.proofs.Laws.{whole_lt, rate_most}
 use Rattle.mpeg_parameter.specs.Parameters.{amount_of, given, wanting, number_of, lacking}
 use Rattle.mpeg_parameter.specs.declared.Row.{Row}
 
--- a line's number is under 2^53 or that
+-- a line's number is at most 2^53
 pub amount_most : (r : Row) (v : List ℕ) (n : ℕ) → amount_of r v ≡ Some n → n ≤ 2 ^ 53
 unfolding amount_of
 amount_most r v n = go (rate r)

@@ -1,4 +1,4 @@
--- The text rule by the last byte and those in front of it.
+-- The text rule by the last byte and those in front of it, and from a place on.
 use Prim.Native.Nat.{ℕ, suc, ◌+◌, ◌<◌}
 use mathlib.Core.Path.{◌≡◌, refl, ◌∙◌}
 use mathlib.Core.Bool.{Bool, true, false}
